@@ -1,0 +1,29 @@
+//! The types of the core, and the definitions that every other crate cites.
+//!
+//! The types are plain data: names and ids, items and their parts, holds, events, replies, and the heads of HTTP.
+//! It stands on std alone, and has no handle and no device.
+#![tactic(auto)]
+
+mod body;
+mod copy;
+mod event;
+mod fit;
+mod http;
+mod item;
+mod list;
+mod name;
+mod queue;
+mod reply;
+mod roomed;
+mod tail;
+
+pub use body::Body;
+pub use event::{Entry, Event, HoldKind, HoldSpec, Then};
+pub use http::{Address, Request, Response, Signer};
+pub use item::{Field, Fields, Item, Items, Message, MessagePart, Names, ResponsePart, StreamPart};
+pub use list::List;
+pub use name::{ItemId, Name, NameFault, copy_id};
+pub use queue::Queue;
+pub use reply::{EndCause, HoldReport, HoldReports, Piece, Pieces, Reply, Taken};
+pub use roomed::Roomed;
+pub use tail::{Places, Tail};
