@@ -3,3 +3,8 @@ pub mod Roomy
 pub mod Items
 pub mod Tails
 pub mod Fit
+pub mod Pieces
+pub mod Holds
+pub mod History
+pub mod Standing
+pub mod Chain
