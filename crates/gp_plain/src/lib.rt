@@ -13,6 +13,7 @@ mod item;
 mod law;
 mod list;
 mod name;
+mod pending;
 mod queue;
 mod reply;
 mod roomed;
@@ -25,6 +26,7 @@ pub use item::{Field, Fields, Item, Items, Message, MessagePart, Names, Response
 pub use law::chain_law;
 pub use list::List;
 pub use name::{ItemId, Name, NameFault, copy_id};
+pub use pending::Pending;
 pub use queue::Queue;
 pub use reply::{EndCause, HoldReport, HoldReports, Piece, Pieces, Reply, Taken};
 pub use roomed::Roomed;

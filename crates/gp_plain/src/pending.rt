@@ -1,0 +1,244 @@
+ghost use Rattle.std.specs.Prelude.{◌≡◌, ◌+◌, ◌-◌, ◌^◌, ◌<◌, ◌≤◌, ◌==◌, ◌++◌, ◌∷◌, [], true, ℕ, List, length, take, drop, min, sum_by, IfOk, OnOk, OnErr, MatchOption};
+ghost use Rattle.gp_plain.specs.Pieces.{batch, batch_count, count_within, has_room, left, message_weight, weight};
+ghost use Rattle.std.specs.VecDeque.{deque_capacity};
+ghost use Rattle.gp_plain.specs.Roomy.{roomy};
+
+use crate::item::Message;
+use crate::queue::Queue;
+use crate::reply::{Piece, Pieces};
+use std::alloc::{AllocError, Global};
+use std::collections::VecDeque;
+use std::marker::Model;
+
+/// The bytes that may wait for one hold, at most.
+const BYTES: usize = 524288;
+
+/// The pieces that may wait for one hold, at most.
+const PIECES: usize = 1024;
+
+/// The bytes of one Take, at most, unless its first piece alone has more.
+const BATCH: usize = 65536;
+
+/// The pieces that wait for a hold, oldest first: at most 524,288 bytes and 1,024 pieces.
+///
+/// It is filled in two steps, so that many holds can be filled together or not at all: `reserve` takes the
+/// memory, and `push` then takes none. Contracts see the pieces and the room.
+#[derive(Drop)]
+pub struct Pending {
+    alloc: Global,
+    pieces: VecDeque<Piece>,
+    spare: usize,
+    bytes: usize,
+}
+
+impl Model for Pending {
+    ghost use Rattle.std.specs.Prelude.{◌≡◌, ◌+◌, ◌≤◌, length, sum_by};
+    ghost use Rattle.std.specs.VecDeque.{deque_capacity};
+    ghost use Rattle.gp_plain.specs.Roomy.{Roomy, roomy, roomy_code};
+    ghost use Rattle.gp_plain.specs.declared.reply.Piece.{Piece};
+    ghost use Rattle.gp_plain.specs.Pieces.{weight};
+
+    ghost Value = { Roomy Piece };
+
+    ghost view = { λ p. roomy p.pieces.items p.spare };
+
+    ghost invariant = { λ p. (length p.pieces.items + p.spare ≤ deque_capacity p.pieces) × (p.bytes ≡ sum_by weight p.pieces.items) × (p.bytes ≤ 524288) × (length p.pieces.items ≤ 1024) };
+}
+
+impl Message {
+    /// The bytes that it counts while it waits, where they fit a `usize`: its payload, and of a close with a code its
+    /// reason and 2.
+    fn weight(&self) -> Option<usize>
+        ensures { MatchOption result (2 ^ 64 ≤ message_weight self.now) (λ n. n ≡ message_weight self.now) }
+    {
+        match self {
+            Message::Text(bytes) => Some(bytes.len()),
+            Message::Binary(bytes) => Some(bytes.len()),
+            Message::Ping(bytes) => Some(bytes.len()),
+            Message::Pong(bytes) => Some(bytes.len()),
+            Message::Close {
+                code: Some(_),
+                reason,
+            } => reason.len().checked_add(2),
+            Message::Close { code: None, .. } => Some(0),
+        }
+    }
+}
+
+impl Piece {
+    /// The bytes that it counts while it waits, where they fit a `usize`.
+    fn weight(&self) -> Option<usize>
+        ensures { MatchOption result (2 ^ 64 ≤ weight self.now) (λ n. n ≡ weight self.now) }
+    {
+        match self {
+            Piece::Opening(bytes) => Some(bytes.len()),
+            Piece::Item { bytes, .. } => Some(bytes.len()),
+            Piece::Page { bytes, .. } => Some(bytes.len()),
+            Piece::Message(message) => message.weight(),
+            Piece::Answer { part, .. } => Some(part.body.len()),
+        }
+    }
+}
+
+/// How many pieces, from the first on, have at most as many bytes together as a batch, and how many bytes.
+fn counted(pieces: &VecDeque<Piece>) -> (usize, usize)
+    ensures count { result.0 ≡ count_within 65536 pieces.now.items }
+    ensures bytes { result.1 ≡ sum_by weight (take result.0 pieces.now.items) }
+    ensures within { result.0 ≤ length pieces.now.items }
+{
+    let mut count = 0;
+    let mut bytes = 0;
+    while let Some(piece) = pieces.get(count) {
+        match piece.weight() {
+            Some(weight) if weight <= BATCH - bytes => {
+                bytes += weight;
+                count += 1;
+            }
+            _ => break,
+        }
+    }
+    (count, bytes)
+}
+
+/// How many pieces the next batch has, and how many bytes.
+fn measured(pieces: &VecDeque<Piece>) -> (usize, usize)
+    requires { sum_by weight pieces.now.items < 2 ^ 64 }
+    ensures count { result.0 ≡ min (batch_count pieces.now.items) (length pieces.now.items) }
+    ensures bytes { result.1 ≡ sum_by weight (take result.0 pieces.now.items) }
+{
+    let (count, bytes) = counted(pieces);
+    if count > 0 {
+        return (count, bytes);
+    }
+    match pieces.front() {
+        Some(first) => match first.weight() {
+            Some(weight) => (1, weight),
+            None => unreachable!(),
+        },
+        None => (0, 0),
+    }
+}
+
+/// Moves the first pieces out.
+fn moved_out(
+    alloc: Global,
+    pieces: &mut VecDeque<Piece>,
+    count: usize,
+) -> Result<Vec<Piece>, AllocError>
+    requires { count ≤ length pieces.old.items }
+    ensures given { IfOk result (λ given. given.items ≡ take count pieces.old.items) }
+    ensures rest { OnOk result (pieces.new.items ≡ drop count pieces.old.items) }
+    ensures err { OnErr result (pieces.new.items ≡ pieces.old.items) }
+    ensures capacity { deque_capacity pieces.new ≡ deque_capacity pieces.old }
+{
+    let mut given = Vec::with_capacity(alloc, count)?;
+    for _turn in 0..count {
+        if let Some(piece) = pieces.pop_front() {
+            given.push_reserved(piece);
+        }
+    }
+    Ok(given)
+}
+
+/// A copy of pieces.
+fn copied(alloc: Global, pieces: &VecDeque<Piece>) -> Result<Vec<Piece>, AllocError>
+    ensures { IfOk result (λ copy. copy.items ≡ pieces.now.items) }
+{
+    let mut copy = Vec::with_capacity(alloc, pieces.len())?;
+    for place in 0..pieces.len() {
+        if let Some(piece) = pieces.get(place) {
+            copy.push(piece.copy(alloc)?)?;
+        }
+    }
+    Ok(copy)
+}
+
+impl Pending {
+    /// No piece, and no room. It takes no memory.
+    pub fn new(alloc: Global) -> Pending
+        ensures { result ≡ roomy [] 0 }
+    {
+        Pending {
+            alloc,
+            pieces: VecDeque::new(alloc),
+            spare: 0,
+            bytes: 0,
+        }
+    }
+
+    /// How many pieces wait.
+    pub fn len(&self) -> usize
+        ensures { result ≡ length self.now.items }
+    {
+        self.pieces.len()
+    }
+
+    /// Whether no piece waits.
+    pub fn is_empty(&self) -> bool
+        ensures { result ≡ (length self.now.items == 0) }
+    {
+        self.pieces.is_empty()
+    }
+
+    /// Whether one more piece would be within the limits.
+    pub fn has_room(&self, piece: &Piece) -> bool
+        ensures { result ≡ has_room self.now.items piece.now }
+    {
+        match piece.weight() {
+            Some(weight) => weight <= BYTES - self.bytes && self.pieces.len() < PIECES,
+            None => false,
+        }
+    }
+
+    /// Makes room for so many more pieces. The pieces stay as they are.
+    pub fn reserve(&mut self, more: usize) -> Result<(), AllocError>
+        ensures items { self.new.items ≡ self.old.items }
+        ensures room { OnOk result (more ≤ self.new.spare) }
+        ensures err { OnErr result (self.new ≡ self.old) }
+    {
+        self.pieces.reserve(more)?;
+        if self.spare < more {
+            self.spare = more;
+        }
+        Ok(())
+    }
+
+    /// Adds a piece at the end. It takes no memory.
+    pub fn push(&mut self, piece: Piece)
+        requires spare { 0 < self.old.spare }
+        requires room { has_room self.old.items piece ≡ true }
+        ensures { self.new ≡ roomy (self.old.items ++ piece ∷ []) (self.old.spare - 1) }
+    {
+        let weight = match piece.weight() {
+            Some(weight) => weight,
+            None => unreachable!(),
+        };
+        match self.pieces.push_back(piece) {
+            Ok(()) => {
+                self.spare -= 1;
+                self.bytes += weight;
+            }
+            Err(_) => unreachable!(),
+        }
+    }
+
+    /// Takes the next batch out: the longest first part with at most 65,536 bytes, or the first piece alone where it
+    /// has more. Its work grows with what it gives. An error leaves all as before.
+    pub fn take(&mut self) -> Result<Pieces, AllocError>
+        ensures given { IfOk result (λ given. given ≡ batch self.old.items) }
+        ensures left { OnOk result (self.new.items ≡ left self.old.items) }
+        ensures err { OnErr result (self.new ≡ self.old) }
+    {
+        let (count, bytes) = measured(&self.pieces);
+        let given = moved_out(self.alloc, &mut self.pieces, count)?;
+        self.bytes -= bytes;
+        Ok(Queue::from_vec(given))
+    }
+
+    /// A copy of the pieces that wait.
+    pub fn copy(&self) -> Result<Pieces, AllocError>
+        ensures { IfOk result (λ copy. copy ≡ self.now.items) }
+    {
+        Ok(Queue::from_vec(copied(self.alloc, &self.pieces)?))
+    }
+}
