@@ -1,4 +1,4 @@
-ghost use Rattle.std.specs.Prelude.{◌≡◌, IfOk, length};
+ghost use Rattle.std.specs.Prelude.{◌≡◌, [], IfOk, length};
 
 use std::alloc::{AllocError, Global};
 use std::marker::Model;
@@ -25,6 +25,15 @@ impl Body {
         Ok(Body {
             bytes: Vec::from_slice(alloc, bytes)?,
         })
+    }
+
+    /// No byte. It takes no memory.
+    pub fn empty(alloc: Global) -> Body
+        ensures { result ≡ [] }
+    {
+        Body {
+            bytes: Vec::new(alloc),
+        }
     }
 
     /// The bytes.

@@ -13,6 +13,7 @@ mod item;
 mod law;
 mod list;
 mod name;
+mod offer;
 mod pending;
 mod queue;
 mod reply;

@@ -1,0 +1,128 @@
+//! What an item says to a stream at a position.
+ghost use Rattle.std.specs.Prelude.{◌≡◌, IfOk, Some, option_map};
+ghost use Rattle.gp_plain.specs.Holds.{comes_next, leaves_gap, piece_of};
+ghost use Rattle.gp_plain.specs.Items.{closes, is_on};
+ghost use Rattle.gp_plain.specs.Pieces.{closed_by_message, end_by, message_bytes, moves_to, piece_bytes};
+
+use crate::body::Body;
+use crate::item::{Item, Message, StreamPart};
+use crate::name::{ItemId, Name, copy_id};
+use crate::reply::{EndCause, Piece};
+use std::alloc::{AllocError, Global};
+
+impl Item {
+    /// Whether it is on the channel.
+    pub fn is_on(&self, channel: &Name) -> bool
+        ensures { result ≡ is_on channel.now self.now }
+    {
+        self.channel.is(channel)
+    }
+
+    /// Whether it has both ids, and its previous id is the position.
+    pub fn comes_next(&self, position: &ItemId) -> bool
+        ensures { result ≡ comes_next self.now (Some position.now) }
+    {
+        match (&self.id, &self.prev) {
+            (Some(_), Some(prev)) => prev.is(position),
+            _ => false,
+        }
+    }
+
+    /// Whether it has both ids, doesn't come next, and its id isn't the position.
+    pub fn leaves_gap(&self, position: &ItemId) -> bool
+        ensures { result ≡ leaves_gap self.now (Some position.now) }
+    {
+        match (&self.id, &self.prev) {
+            (Some(id), Some(prev)) => !prev.is(position) && !id.is(position),
+            _ => false,
+        }
+    }
+
+    /// What a stream's log has of it.
+    pub fn stream_piece(&self, alloc: Global) -> Result<Piece, AllocError>
+        ensures { IfOk result (λ piece. piece ≡ piece_of self.now) }
+    {
+        let to = copy_id(alloc, &self.id)?;
+        match &self.stream {
+            Some(StreamPart::Content(bytes)) => Ok(Piece::Item {
+                to,
+                bytes: bytes.copy(alloc)?,
+                close: false,
+            }),
+            Some(StreamPart::Close) => Ok(Piece::Item {
+                to,
+                bytes: Body::empty(alloc),
+                close: true,
+            }),
+            None => Ok(Piece::Item {
+                to,
+                bytes: Body::empty(alloc),
+                close: false,
+            }),
+        }
+    }
+}
+
+impl Piece {
+    /// The end that it brings.
+    pub fn end(&self) -> Option<EndCause>
+        ensures { result ≡ end_by self.now }
+    {
+        match self {
+            Piece::Item { close: true, .. } => Some(EndCause::Closed),
+            Piece::Message(message) => message.end(),
+            Piece::Answer { .. } => Some(EndCause::Answered),
+            _ => None,
+        }
+    }
+
+    /// The bytes that it sends. A close message sends none.
+    pub fn bytes(&self) -> &[u8]
+        ensures { result.now ≡ piece_bytes self.now }
+    {
+        match self {
+            Piece::Opening(bytes) => bytes.bytes(),
+            Piece::Item { bytes, .. } => bytes.bytes(),
+            Piece::Page { bytes, .. } => bytes.bytes(),
+            Piece::Message(message) => message.payload(),
+            Piece::Answer { part, .. } => part.body.bytes(),
+        }
+    }
+
+    /// The id that it moves the position to, where it has one.
+    pub fn moves_to(&self) -> Option<&ItemId>
+        ensures { option_map (λ id. id.now) result ≡ moves_to self.now }
+    {
+        match self {
+            Piece::Item { to: Some(id), .. } => Some(id),
+            Piece::Page { to, .. } => Some(to),
+            Piece::Answer { to: Some(id), .. } => Some(id),
+            _ => None,
+        }
+    }
+}
+
+impl Message {
+    /// The end that it brings: a close ends a socket.
+    fn end(&self) -> Option<EndCause>
+        ensures { result ≡ closed_by_message self.now }
+    {
+        match self {
+            Message::Close { .. } => Some(EndCause::Closed),
+            _ => None,
+        }
+    }
+
+    /// Its payload. A close gives none.
+    fn payload(&self) -> &[u8]
+        ensures { result.now ≡ message_bytes self.now }
+    {
+        match self {
+            Message::Text(bytes) => bytes.bytes(),
+            Message::Binary(bytes) => bytes.bytes(),
+            Message::Ping(bytes) => bytes.bytes(),
+            Message::Pong(bytes) => bytes.bytes(),
+            Message::Close { .. } => &[],
+        }
+    }
+}
