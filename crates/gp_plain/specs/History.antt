@@ -1,10 +1,13 @@
 -- What a history, oldest entry first, says of its holds and of the next reply.
 use Rattle.std.specs.Prelude.{ℕ, zero, suc, Bool, true, false, cond, not, nat_lt, ◌==◌, List, [], ◌∷◌, ◌++◌, length, map, count_by, fold, slice_get, Option, Some, None}
-use Rattle.gp_plain.specs.Holds.{Held, begun, served, grew, taken_of, after_take, after_detach}
+use Rattle.std.specs.Option.{option_map_or}
+use Rattle.gp_plain.specs.Holds.{Held, position, begun, served, grew, taken_of, after_take, after_detach}
 use Rattle.gp_plain.specs.declared.item.Item.{Item}
 use Rattle.gp_plain.specs.declared.event.Entry.{Entry}
 use Rattle.gp_plain.specs.declared.event.Event.{Event}
 use Rattle.gp_plain.specs.declared.event.Event.TheVariants.{Attach, Publish, Take, Page, PageFailed, Push, Join, Leave, Detach}
+use Rattle.gp_plain.specs.declared.reply.Piece.{Piece}
+use Rattle.gp_plain.specs.declared.reply.EndCause.{EndCause}
 use Rattle.gp_plain.specs.declared.reply.Reply.{Reply}
 use Rattle.gp_plain.specs.declared.reply.Reply.TheVariants.{Attached, Full, Published, Taken, Done, Foreign, Unknown}
 
@@ -23,6 +26,22 @@ if_kept (Some h) = cond h.released None (Some h)
 -- the hold of a number, where it is kept
 abbrev pub kept_at : List Held → ℕ → Option Held
 kept_at holds number = if_kept (slice_get holds number)
+
+-- what waits for the kept hold of a number; nothing where none is kept
+abbrev pub pending_at : List Held → ℕ → List Piece
+pending_at holds number = option_map_or (λ (h : Held). h.pending) (kept_at holds number) []
+
+abbrev pub position_if : Option Held → Option (List ℕ)
+position_if None = None
+position_if (Some h) = position h
+
+-- the position of the kept hold of a number
+abbrev pub position_at : List Held → ℕ → Option (List ℕ)
+position_at holds number = position_if (kept_at holds number)
+
+-- the end of the kept hold of a number
+abbrev pub cause_at : List Held → ℕ → Option EndCause
+cause_at holds number = option_map_or (λ (h : Held). h.ended) (kept_at holds number) None
 
 -- an event on the hold of a number is refused where none is kept, and then where another owns it
 abbrev pub refused_or : ℕ → ℕ → Option Held → (Held → Reply) → Reply

@@ -1,0 +1,7 @@
+pub mod Turns
+pub mod Numbers
+pub mod Searching
+pub mod Standing
+pub mod Taking
+pub mod Finding
+pub mod Serving

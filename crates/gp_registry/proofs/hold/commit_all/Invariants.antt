@@ -1,0 +1,10 @@
+use Rattle.std.proofs.Common.{◌≡◌, map, take, drop, count_by}
+use Rattle.gp_registry.specs.Stages.{kept_hold, committed, appends}
+use Rattle.gp_registry.proofs.hold.commit_all.Given as goal
+
+abbrev pub invariant-loop-hold : goal.invariant-loop-hold
+invariant-loop-hold l = record {
+  done : map kept_hold (take l.hold-index l.holds) ≡ map committed (take l.hold-index l.initial.holds);
+  rest : drop l.hold-index l.holds ≡ drop l.hold-index l.initial.holds;
+  count : l.grew ≡ count_by (λ h. appends h.staged) (take l.hold-index l.initial.holds);
+}

@@ -1,0 +1,4 @@
+pub mod Keeps
+pub mod Stages
+pub mod Places
+pub mod Steps

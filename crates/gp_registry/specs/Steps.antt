@@ -1,0 +1,82 @@
+-- What one event does to what a registry keeps, and how it is answered: one law carries this to histories.
+use Rattle.std.specs.Prelude.{ℕ, zero, suc, ◌+◌, ◌==◌, Bool, true, false, cond, nat_lt, List, [], ◌∷◌, ◌++◌, length, map, count_by, find, Option, Some, None, is_some, option_map}
+use Rattle.std.specs.Option.{option_map_or}
+use Rattle.gp_plain.specs.declared.event.Event.{Event}
+use Rattle.gp_plain.specs.declared.event.Event.TheVariants.{Attach, Publish, Take, Page, PageFailed, Push, Join, Leave, Detach}
+use Rattle.gp_plain.specs.declared.event.HoldSpec.{HoldSpec}
+use Rattle.gp_plain.specs.declared.reply.Piece.{Piece}
+use Rattle.gp_plain.specs.declared.reply.EndCause.{EndCause}
+use Rattle.gp_plain.specs.declared.reply.Reply.{Reply}
+use Rattle.gp_plain.specs.declared.reply.Reply.TheVariants.{Attached, Full, Published, Taken, Done, Foreign, Unknown}
+use Rattle.gp_plain.specs.Holds.{begun}
+use Rattle.gp_plain.specs.Standing.{Kept, Standing, kept_of}
+use Rattle.gp_registry.specs.Keeps.{served_kept, grew_kept, taken_kept, after_take_kept}
+
+-- the kept hold of a number
+abbrev pub found : ℕ → List Kept → Option Kept
+found number kept = find (λ (k : Kept). k.number == number) kept
+
+abbrev pub if_own : ℕ → (Kept → List Kept) → Kept → List Kept
+if_own who change k = cond (k.owner == who) (change k) (k ∷ [])
+
+-- the kept hold of a number becomes another, or none, where its owner asks
+abbrev pub replaced : ℕ → ℕ → (Kept → List Kept) → List Kept → List Kept
+replaced who number change [] = []
+replaced who number change (k ∷ kept) = cond (k.number == number) (if_own who change k ++ kept) (k ∷ replaced who number change kept)
+
+-- the kept hold at a place becomes another, or none
+abbrev pub instead : ℕ → (Kept → List Kept) → List Kept → List Kept
+instead place change [] = []
+instead zero change (k ∷ kept) = change k ++ kept
+instead (suc place) change (k ∷ kept) = k ∷ instead place change kept
+
+-- a Take that tells the end releases the hold
+abbrev pub kept_after_take : Kept → List Kept
+kept_after_take k = cond (is_some (taken_kept k).ended) [] (after_take_kept k ∷ [])
+
+abbrev pub kept_after_detach : Kept → List Kept
+kept_after_detach k = []
+
+abbrev pub has_place_kept : List Kept → Bool
+has_place_kept kept = nat_lt (length kept) 4096
+
+-- what an event does
+abbrev pub stepped : Standing → ℕ → Event → Standing
+stepped s who (Attach spec) = cond (has_place_kept s.kept) (record { next = s.next + 1; kept = s.kept ++ kept_of s.next (begun who spec) ∷ [] }) s
+stepped s who (Publish item) = record s { kept = map (served_kept item) s.kept }
+stepped s who (Take hold now) = record s { kept = replaced who hold kept_after_take s.kept }
+stepped s who (Detach hold) = record s { kept = replaced who hold kept_after_detach s.kept }
+stepped s who (Page hold from to bytes then) = s
+stepped s who (PageFailed hold) = s
+stepped s who (Push hold message) = s
+stepped s who (Join hold channel) = s
+stepped s who (Leave hold channel) = s
+
+abbrev pub refused_or_kept : ℕ → ℕ → Option Kept → (Kept → Reply) → Reply
+refused_or_kept who number None reply = Unknown number
+refused_or_kept who number (Some k) reply = cond (k.owner == who) (reply k) (Foreign k.owner)
+
+-- how it is answered
+abbrev pub answered : Standing → ℕ → Event → Reply
+answered s who (Attach spec) = cond (has_place_kept s.kept) (Attached s.next) (Full 4096)
+answered s who (Publish item) = Published (count_by (λ (k : Kept). grew_kept k (served_kept item k)) s.kept)
+answered s who (Take hold now) = refused_or_kept who hold (found hold s.kept) (λ (k : Kept). Taken (taken_kept k))
+answered s who (Detach hold) = refused_or_kept who hold (found hold s.kept) (λ (k : Kept). Done)
+answered s who (Page hold from to bytes then) = Done
+answered s who (PageFailed hold) = Done
+answered s who (Push hold message) = Done
+answered s who (Join hold channel) = Done
+answered s who (Leave hold channel) = Done
+
+-- what waits for a kept hold; nothing where it is not kept
+abbrev pub kept_pending : Option Kept → List Piece
+kept_pending None = []
+kept_pending (Some k) = k.pending
+
+abbrev pub kept_position : Option Kept → Option (List ℕ)
+kept_position None = None
+kept_position (Some k) = k.position
+
+abbrev pub kept_cause : Option Kept → Option EndCause
+kept_cause None = None
+kept_cause (Some k) = k.ended

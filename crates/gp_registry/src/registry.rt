@@ -1,0 +1,229 @@
+ghost use Rattle.std.specs.Prelude.{◌≡◌, ◌+◌, ◌^◌, ◌<◌, ◌≤◌, ◌==◌, ◌++◌, ◌∷◌, [], true, ℕ, List, Some, IsOk, vec_len, vec_capacity, IfOk, IfErr, OnOk, OnErr, MatchResult, All, map, length, option_map};
+ghost use Rattle.gp_plain.specs.Fit.{fits, fits_item, fits_spec, is_built_spec};
+ghost use Rattle.gp_plain.specs.History.{cause_at, held, kept_count, pending_at, position_at, reply};
+ghost use Rattle.gp_plain.specs.Standing.{StandsFor};
+ghost use Rattle.gp_plain.specs.declared.event.Entry.{Entry};
+ghost use Rattle.gp_registry.specs.Stages.{kept_hold};
+ghost use Rattle.gp_registry.specs.Steps.{answered, found, kept_pending, kept_position, kept_cause, stepped};
+
+use crate::hold::{Hold, commit_all, stage_all};
+use crate::order::{place_of, release_at, take_at};
+use gp_plain::{EndCause, Event, HoldSpec, Item, ItemId, Pending, Piece, Pieces, Reply};
+use std::alloc::{AllocError, Global};
+use std::marker::Model;
+
+/// The holds that are kept, at most.
+const PLACES: usize = 4096;
+
+/// All holds. Contracts see what it keeps: the number of the next hold, and the kept holds in the order of their
+/// numbers.
+#[derive(Drop)]
+pub struct Registry {
+    alloc: Global,
+    next: u64,
+    holds: Vec<Hold>,
+}
+
+impl Model for Registry {
+    ghost use Rattle.gp_plain.specs.Standing.{Standing};
+
+    ghost Value = { Standing };
+
+    ghost use Rattle.gp_registry.specs.Stages.{IsInOrder, standing_now};
+
+    ghost view = { λ r. standing_now r.next r.holds.items };
+
+    ghost invariant = { λ r. IsInOrder r.next r.holds.items };
+}
+
+/// Room for one more hold, and for its opening.
+fn room_for_hold(alloc: Global, holds: &mut Vec<Hold>) -> Result<Pending, AllocError>
+    ensures same { holds.new.items ≡ holds.old.items }
+    ensures place { OnOk result (vec_len holds.new < vec_capacity holds.new) }
+    ensures pending { IfOk result (λ pending. (pending.items ≡ []) × (0 < pending.spare)) }
+{
+    let mut pending = Pending::new(alloc);
+    pending.reserve(1)?;
+    holds.reserve(1)?;
+    Ok(pending)
+}
+
+impl Registry {
+    /// A registry that stands for the empty history. It takes no memory.
+    pub fn new(alloc: Global) -> Registry
+        ensures { StandsFor result [] }
+    {
+        Registry {
+            alloc,
+            next: 0,
+            holds: Vec::new(alloc),
+        }
+    }
+
+    fn attach(&mut self, who: u64, spec: HoldSpec) -> Result<Reply, (HoldSpec, AllocError)>
+        requires built { is_built_spec spec ≡ true }
+        requires fits { fits_spec spec ≡ true }
+        requires room { self.old.next < 2 ^ 62 }
+        ensures ok { IfOk result (λ r. (r ≡ answered self.old who (Event.Attach spec)) × (self.new ≡ stepped self.old who (Event.Attach spec))) }
+        ensures err { IfErr result (λ e. (e.0 ≡ spec) × (self.new ≡ self.old)) }
+    {
+        if self.holds.len() >= PLACES {
+            return Ok(Reply::Full(4096));
+        }
+        let mut pending = match room_for_hold(self.alloc, &mut self.holds) {
+            Ok(pending) => pending,
+            Err(refused) => return Err((spec, refused)),
+        };
+        match spec {
+            HoldSpec::Stream {
+                opening,
+                channel,
+                prev,
+                link,
+            } => {
+                let number = self.next;
+                pending.push(Piece::Opening(opening));
+                self.holds.push_reserved(Hold {
+                    number,
+                    owner: who,
+                    channel,
+                    link,
+                    pending,
+                    position: prev,
+                    ended: None,
+                    want: false,
+                    asked: false,
+                    late: false,
+                    staged: None,
+                });
+                self.next = number + 1;
+                Ok(Reply::Attached(number))
+            }
+            _ => unreachable!(),
+        }
+    }
+
+    fn publish(&mut self, item: &Item) -> Result<Reply, AllocError>
+        ensures ok { (who : ℕ) → IfOk result (λ r. (r ≡ answered self.old who (Event.Publish item.now)) × (self.new ≡ stepped self.old who (Event.Publish item.now))) }
+        ensures err { OnErr result (self.new ≡ self.old) }
+    {
+        let holds = self.holds.as_mut_slice();
+        stage_all(self.alloc, holds, item)?;
+        let grew = commit_all(holds);
+        Ok(Reply::Published(grew))
+    }
+
+    fn take(&mut self, who: u64, hold: u64) -> Result<Reply, AllocError>
+        ensures ok { (now : ℕ) → IfOk result (λ r. (r ≡ answered self.old who (Event.Take hold now)) × (self.new ≡ stepped self.old who (Event.Take hold now))) }
+        ensures err { OnErr result (self.new ≡ self.old) }
+    {
+        let Some(place) = place_of(self.holds.as_slice(), hold) else {
+            return Ok(Reply::Unknown(hold));
+        };
+        let owner = self.holds[place].owner;
+        if owner != who {
+            return Ok(Reply::Foreign(owner));
+        }
+        let taken = take_at(self.alloc, &mut self.holds, place)?;
+        Ok(Reply::Taken(taken))
+    }
+
+    fn detach(&mut self, who: u64, hold: u64) -> Reply
+        ensures { (result ≡ answered self.old who (Event.Detach hold)) × (self.new ≡ stepped self.old who (Event.Detach hold)) }
+    {
+        let Some(place) = place_of(self.holds.as_slice(), hold) else {
+            return Reply::Unknown(hold);
+        };
+        let owner = self.holds[place].owner;
+        if owner != who {
+            return Reply::Foreign(owner);
+        }
+        release_at(&mut self.holds, place);
+        Reply::Done
+    }
+
+    fn step_now(&mut self, who: u64, event: Event) -> Result<Reply, (Event, AllocError)>
+        requires fits { fits event ≡ true }
+        requires room { self.old.next < 2 ^ 62 }
+        ensures ok { IfOk result (λ r. (r ≡ answered self.old who event) × (self.new ≡ stepped self.old who event)) }
+        ensures err { IfErr result (λ e. (e.0 ≡ event) × (self.new ≡ self.old)) }
+        ensures detach { (hold : ℕ) → event ≡ Event.Detach hold → IsOk result }
+    {
+        match event {
+            Event::Attach { spec } => match self.attach(who, spec) {
+                Ok(reply) => Ok(reply),
+                Err((spec, refused)) => Err((Event::Attach { spec }, refused)),
+            },
+            Event::Publish { item } => match self.publish(&item) {
+                Ok(reply) => Ok(reply),
+                Err(refused) => Err((Event::Publish { item }, refused)),
+            },
+            Event::Take { hold, now } => match self.take(who, hold) {
+                Ok(reply) => Ok(reply),
+                Err(refused) => Err((Event::Take { hold, now }, refused)),
+            },
+            Event::Detach { hold } => Ok(self.detach(who, hold)),
+            _ => unreachable!(),
+        }
+    }
+
+    /// Does what the event asks, and answers it. `who` is the number of the one who asks.
+    ///
+    /// An error comes from want of memory alone: it changes nothing, and hands the event back. A Detach takes no
+    /// memory, and is always answered.
+    pub fn step(&mut self, who: u64, event: Event) -> Result<Reply, (Event, AllocError)>
+        requires fits { fits event ≡ true }
+        requires room { self.old.next < 2 ^ 62 }
+        ensures reply { (past : List Entry) → StandsFor self.old past → IfOk result (λ r. (r ≡ reply past who event) × StandsFor self.new (past ++ (record { who = who; event = event }) ∷ [])) }
+        ensures err { IfErr result (λ e. (e.0 ≡ event) × (self.new ≡ self.old)) }
+        ensures detach { (hold : ℕ) → event ≡ Event.Detach hold → IsOk result }
+    {
+        self.step_now(who, event)
+    }
+
+    /// How many holds are kept.
+    pub fn kept(&self) -> u32
+        ensures { (past : List Entry) → StandsFor self.now past → result ≡ kept_count (held past) }
+    {
+        self.holds.len() as u32
+    }
+
+    fn hold(&self, number: u64) -> Option<&Hold>
+        ensures { option_map (λ hold. kept_hold hold.now) result ≡ found number self.now.kept }
+    {
+        match place_of(self.holds.as_slice(), number) {
+            Some(place) => Some(&self.holds[place]),
+            None => None,
+        }
+    }
+
+    /// A copy of the pieces of a kept hold that weren't taken. It is empty for another number.
+    pub fn pending(&self, hold: u64) -> Result<Pieces, AllocError>
+        ensures { (past : List Entry) → StandsFor self.now past → IfOk result (λ pieces. pieces ≡ pending_at (held past) hold) }
+    {
+        match self.hold(hold) {
+            Some(hold) => hold.pending.copy(),
+            None => Ok(Pieces::new(self.alloc)),
+        }
+    }
+
+    /// The position of a kept hold, and none for another number. It takes no memory.
+    pub fn position(&self, hold: u64) -> Option<&ItemId>
+        ensures { (past : List Entry) → StandsFor self.now past → option_map (λ id. id.now) result ≡ position_at (held past) hold }
+    {
+        match self.hold(hold) {
+            Some(hold) => Some(&hold.position),
+            None => None,
+        }
+    }
+
+    /// Why a kept hold ended, and none for a live hold or another number. It takes no memory.
+    pub fn cause(&self, hold: u64) -> Option<EndCause>
+        ensures { (past : List Entry) → StandsFor self.now past → result ≡ cause_at (held past) hold }
+    {
+        match self.hold(hold) {
+            Some(hold) => hold.ended,
+            None => None,
+        }
+    }
+}
