@@ -338,3 +338,19 @@ position_is past s n at = position_by n (kept_at (held past) n) ∙ ap kept_posi
 
 pub cause_is : (past : List Entry) (s : Standing) (n : ℕ) → StandsFor s past → cause_at (held past) n ≡ kept_cause (found n s.kept)
 cause_is past s n at = cause_by n (kept_at (held past) n) ∙ ap kept_cause (sym (found_in past s n at))
+
+next_by : (s t : Standing) (b : Bool) → t.next ≡ s.next + 1 → (cond b t s).next ≤ s.next + 1
+next_by s t true e = omega arith
+next_by s t false e = omega arith
+
+-- an event gives one number at most
+pub stepped_next : (s : Standing) (who : ℕ) (event : Event) → (stepped s who event).next ≤ s.next + 1
+stepped_next s who (Attach spec) = next_by s (record { next = s.next + 1; kept = s.kept ++ kept_of s.next (begun who spec) ∷ [] }) (has_place_kept s.kept) refl
+stepped_next s who (Publish item) = omega arith
+stepped_next s who (Take hold now) = omega arith
+stepped_next s who (Detach hold) = omega arith
+stepped_next s who (Page hold from to bytes then) = omega arith
+stepped_next s who (PageFailed hold) = omega arith
+stepped_next s who (Push hold message) = omega arith
+stepped_next s who (Join hold channel) = omega arith
+stepped_next s who (Leave hold channel) = omega arith

@@ -10,3 +10,6 @@ mod order;
 mod registry;
 
 pub use registry::Registry;
+
+#[cfg(test)]
+mod tests;

@@ -174,6 +174,7 @@ impl Registry {
     pub fn step(&mut self, who: u64, event: Event) -> Result<Reply, (Event, AllocError)>
         requires fits { fits event ≡ true }
         requires room { self.old.next < 2 ^ 62 }
+        ensures number { self.new.next ≤ self.old.next + 1 }
         ensures reply { (past : List Entry) → StandsFor self.old past → IfOk result (λ r. (r ≡ reply past who event) × StandsFor self.new (past ++ (record { who = who; event = event }) ∷ [])) }
         ensures err { IfErr result (λ e. (e.0 ≡ event) × (self.new ≡ self.old)) }
         ensures detach { (hold : ℕ) → event ≡ Event.Detach hold → IsOk result }

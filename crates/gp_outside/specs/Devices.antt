@@ -1,0 +1,44 @@
+-- What a call on a device says.
+use Rattle.std.specs.Prelude.{ℕ, ◌≡◌, ◌<◌, ◌≤◌, List, length, take, Option}
+use mathlib.Core.List.{IsPrefix}
+use Rattle.gp_outside.specs.Counts.{Rose, grown}
+use Rattle.gp_outside.specs.declared.device.FileRead.{FileRead}
+use Rattle.gp_outside.specs.declared.device.FileRead.TheVariants.{Took, TooLong, Failed, NoMemory}
+use Rattle.gp_outside.specs.declared.device.Written.{Written}
+use Rattle.gp_outside.specs.declared.device.Written.TheVariants.{Took as WriteTook, Failed as WriteFailed}
+
+-- a file whose content is told: the whole of it is read where it has at most 16,777,216 bytes, and it is too long
+-- exactly where it has more, unless the read fails or memory is wanting
+abbrev pub IsReadOf : List ℕ → FileRead → Type 0
+IsReadOf content (Took body) = (body ≡ content) × (length content ≤ 16777216)
+IsReadOf content TooLong = 16777216 < length content
+IsReadOf content Failed = Unit {0}
+IsReadOf content NoMemory = Unit {0}
+
+-- a failed read has its fault
+abbrev pub FailsWith : FileRead → Type 0 → Type 0
+FailsWith Failed fault = fault
+FailsWith (Took body) fault = Unit {0}
+FailsWith TooLong fault = Unit {0}
+FailsWith NoMemory fault = Unit {0}
+
+-- what a sink tells: all the bytes that were written, where they can be known, and how many faults there were
+pub record SinkTells : Type 0 where
+  pub written : Option (List ℕ)
+  pub faults : ℕ
+
+-- a write takes the first bytes, at least one, or fails with a fault and takes none
+abbrev pub IsWrite : SinkTells → SinkTells → List ℕ → Written → Type 0
+IsWrite before now from (WriteTook n) = (0 < n) × (n ≤ length from) × (now.written ≡ grown before.written (take n from))
+IsWrite before now from WriteFailed = (now.written ≡ before.written) × Rose before.faults now.faults
+
+-- all the bytes were written
+pub record WroteAll (before now : SinkTells) (bytes : List ℕ) : Type 0 where
+  pub later : before.faults ≤ now.faults
+  pub whole : now.written ≡ grown before.written bytes
+
+-- a first part of the bytes was written, and then a fault came
+pub record WrotePart (before now : SinkTells) (bytes : List ℕ) : Type 0 where
+  pub later : before.faults ≤ now.faults
+  pub rose : Rose before.faults now.faults
+  pub part : (some : List ℕ) × IsPrefix some bytes × (now.written ≡ grown before.written some)
