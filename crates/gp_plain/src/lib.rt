@@ -32,3 +32,6 @@ pub use queue::Queue;
 pub use reply::{EndCause, HoldReport, HoldReports, Piece, Pieces, Reply, Taken};
 pub use roomed::Roomed;
 pub use tail::{Places, Tail};
+
+#[cfg(test)]
+mod tests;
