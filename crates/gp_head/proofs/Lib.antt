@@ -1,0 +1,9 @@
+pub mod StepLemmas
+pub mod ExtentLemmas
+pub mod GrammarEnds
+pub mod ByteClasses
+pub mod HeadLemmas
+pub mod SettledLemmas
+pub mod TargetLemmas
+pub mod RoundTrip
+pub mod OneHead

@@ -1,0 +1,5 @@
+pub mod Lines
+pub mod Steps
+pub mod Heads
+pub mod Texts
+pub mod Targets

@@ -1,0 +1,5 @@
+pub mod Passes
+pub mod Fields
+pub mod Causes
+pub mod Rule
+pub mod Steps
