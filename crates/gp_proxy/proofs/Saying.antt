@@ -1,0 +1,77 @@
+-- What the parts of a replay say together.
+use Rattle.std.proofs.Common.{◌≡◌, ◌⊎◌, inl, inr, ℕ, List, [], take, length, Option, Some, None, refl, sym, ap, ◌∙◌, subst}
+use mathlib.Core.List.{IsPrefix}
+use Rattle.gp_plain.specs.declared.event.Event.{Event}
+use Rattle.gp_plain.specs.Standing.{Standing, StandsFor}
+use Rattle.gp_plain.proofs.ChainLaw.{chain_law_holds}
+use Rattle.gp_outside.specs.Counts.{Rose, grown}
+use Rattle.gp_outside.specs.Devices.{SinkTells, WroteAll, WrotePart}
+use Rattle.gp_proxy.specs.Scripts.{entries_of}
+use Rattle.gp_proxy.specs.Outputs.{output}
+use Rattle.gp_proxy.specs.Loads.{Load, IsLoaded, IsNotLoaded}
+use Rattle.gp_proxy.specs.Replays.{Play, IsOfFile, IsUntouched, FollowsChains, IsDone, IsCutOff, IsStopped, IsFileFault, IsTooLong, IsRefused, Says}
+use Rattle.gp_proxy.specs.Runs.{RunSays}
+use Rattle.gp_proxy.specs.declared.status.Status.{Status}
+use Rattle.gp_proxy.specs.declared.status.Status.TheVariants.{Done, Usage, FileFault, TooLong, BadLine, SinkFault, ListenFault, NoMemory}
+
+abbrev load_of : Play → Load
+load_of play = record { content = play.content; faults = play.file_faults; faults_after = play.file_faults_after }
+
+-- a file that isn't loaded
+pub not_loaded : (play : Play) (status : Status) → IsNotLoaded (load_of play) status → play.sink_after.written ≡ play.sink.written → StandsFor play.stands [] → Says status play
+not_loaded play FileFault said written stands = record { untouched = record { written = written; stands = stands }; fault = said }
+not_loaded play TooLong said written stands = record { untouched = record { written = written; stands = stands }; long = said }
+not_loaded play (BadLine line) said written stands = record { untouched = record { written = written; stands = stands }; bad = said }
+not_loaded play NoMemory said written stands = inl (record { written = written; stands = stands })
+not_loaded play Done said written stands = absurd said
+not_loaded play (Usage place) said written stands = absurd said
+not_loaded play SinkFault said written stands = absurd said
+not_loaded play ListenFault said written stands = absurd said
+
+-- memory was wanting after the load
+pub stopped : (play : Play) (events : List Event) (status : Status) (count : ℕ) → status ≡ NoMemory → IsLoaded (load_of play) events → play.sink_after.written ≡ play.sink.written
+    → StandsFor play.stands (entries_of (take count events)) → Says status play
+stopped play events status count is loaded written stands =
+    let said : Says NoMemory play = inr (events, count, record { script = loaded; written = written; stands = stands }) in
+    subst (λ (s : Status). Says s play) (sym is) said
+
+pub done : (play : Play) (events : List Event) (text : List ℕ) → IsLoaded (load_of play) events → text ≡ output events → WroteAll play.sink play.sink_after text → StandsFor play.stands (entries_of events) → Says Done play
+done play events text loaded is wrote stands = (
+  events,
+  record {
+    script = loaded;
+    written = wrote.whole ∙ ap (grown play.sink.written) is;
+    stands = stands;
+    follows = λ chain distinct covers. chain_law_holds chain (entries_of events) distinct covers;
+  },
+)
+
+pub cut_off : (play : Play) (events : List Event) (text : List ℕ) → IsLoaded (load_of play) events → text ≡ output events → WrotePart play.sink play.sink_after text → StandsFor play.stands (entries_of events) → Says SinkFault play
+cut_off play events text loaded is wrote stands = (
+  events,
+  record {
+    script = loaded;
+    fault = wrote.rose;
+    written = (wrote.part.0, subst (λ (t : List ℕ). IsPrefix wrote.part.0 t) is wrote.part.1, wrote.part.2);
+    stands = stands;
+    follows = λ chain distinct covers. chain_law_holds chain (entries_of events) distinct covers;
+  },
+)
+
+abbrev pub play_at : Option (List ℕ) → ℕ → ℕ → SinkTells → SinkTells → Standing → Play
+play_at content before after was now stands = record { content = content; file_faults = before; file_faults_after = after; sink = was; sink_after = now; stands = stands }
+
+-- what is said of the devices is said of the world that lent them
+pub lent : (status : Status) (usage : Option ℕ) (content content' : Option (List ℕ)) (before before' after after' : ℕ) (was was' now now' : SinkTells) (stands : Standing)
+    → usage ≡ None → content ≡ content' → before ≡ before' → after ≡ after' → was ≡ was' → now ≡ now'
+    → Says status (play_at content before after was now stands) → RunSays usage status (play_at content' before' after' was' now' stands)
+lent status usage content content' before before' after after' was was' now now' stands good c b a w n said =
+    let one = subst (λ x. Says status (play_at x before after was now stands)) c said in
+    let two = subst (λ x. Says status (play_at content' x after was now stands)) b one in
+    let three = subst (λ x. Says status (play_at content' before' x was now stands)) a two in
+    let four = subst (λ x. Says status (play_at content' before' after' x now stands)) w three in
+    let five = subst (λ x. Says status (play_at content' before' after' was' x stands)) n four in
+    subst (λ u. RunSays u status (play_at content' before' after' was' now' stands)) (sym good) five
+
+pub faulty : (usage : Option ℕ) (place : ℕ) (play : Play) → usage ≡ Some place → play.sink_after.written ≡ play.sink.written → StandsFor play.stands [] → RunSays usage (Usage place) play
+faulty usage place play is written stands = subst (λ u. RunSays u (Usage place) play) (sym is) (refl, record { written = written; stands = stands })

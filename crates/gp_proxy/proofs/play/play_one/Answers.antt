@@ -1,0 +1,20 @@
+use Rattle.std.proofs.Common.{◌≡◌, ◌∙◌, ◌++◌, ap, inr}
+use Rattle.std.proofs.lemmas.Result.{on_ok_weaker}
+use Rattle.gp_script.specs.Texts.{reply_text}
+use Rattle.gp_proxy.proofs.Lists.{on_ok_given}
+use Rattle.gp_proxy.proofs.Plays.{logs_after}
+use Rattle.gp_proxy.proofs.play.play_one.Goals as goal
+
+pub returns-clause-logs : goal.returns-clause-logs
+returns-clause-logs c = λ past at are.
+    on_ok_weaker c.note.result (λ now. logs_after past c.args.event c.args.logs.now.items c.note.new.logs.items c.in_ok-noted.noted c.in-Ok.reply are (c.in_ok-noted.ensures past at) (c.in-Ok.ensures.reply past at).0 now) c.note.ensures
+
+pub returns-clause-text : goal.returns-clause-text
+returns-clause-text c = λ past at.
+    on_ok_given c.note.result (c.in_ok-extend_from_slice.ensures.items ∙ ap (λ t. c.args.out.now.items ++ t) (c.bytes.ensures ∙ c.in_ok-line.ensures ∙ ap reply_text (c.in-Ok.ensures.reply past at).0))
+
+pub returns-clause-stands : goal.returns-clause-stands
+returns-clause-stands c = λ past at. on_ok_given c.note.result (c.in-Ok.ensures.reply past at).1
+
+pub returns-clause-part : goal.returns-clause-part
+returns-clause-part c = λ past at. inr (c.in-Ok.ensures.reply past at).1

@@ -1,0 +1,10 @@
+use Rattle.std.proofs.Common.{◌≡◌, ◌++◌, List, map, take}
+use Rattle.gp_plain.specs.declared.event.Entry.{Entry}
+use Rattle.gp_plain.specs.History.{held}
+use Rattle.gp_plain.specs.Standing.{StandsFor}
+use Rattle.gp_proxy.specs.Logs.{log_of}
+use Rattle.gp_proxy.specs.Outputs.{logs_text}
+use Rattle.gp_proxy.proofs.play.push_logs.Given as goal
+
+abbrev pub invariant-loop-place : goal.invariant-loop-place
+invariant-loop-place l = (past : List Entry) → StandsFor l.registry past → l.logs ≡ map log_of (held past) → l.out.items ≡ l.initial.out.items ++ logs_text 0 (take l.place (held past))

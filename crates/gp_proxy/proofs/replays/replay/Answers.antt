@@ -1,0 +1,20 @@
+use Rattle.std.proofs.Common.{◌∙◌, refl, subst, sym, List, ℕ}
+use Rattle.gp_outside.specs.Devices.{WroteAll, WrotePart}
+use Rattle.gp_proxy.proofs.Saying.{not_loaded, stopped, done, cut_off}
+use Rattle.gp_proxy.proofs.replays.replay.Goals as goal
+
+pub returns-in-Err : goal.returns-in-Err
+returns-in-Err g c = not_loaded _ c.in-Err.status c.in-Err.ensures.loaded refl c.requires
+
+pub returns-in-Err-played : goal.returns-in-Err-played
+returns-in-Err-played g c =
+    let part = c.in-Err-played.ensures.part in
+    stopped _ c.in-Ok.events.items c.in-Err-played.status part.0 c.in-Err-played.ensures.err c.in-Ok.ensures.loaded refl part.1
+
+pub returns-then-write_all : goal.returns-then-write_all
+returns-then-write_all g c =
+    done _ c.in-Ok.events.items c.as_slice.result.now c.in-Ok.ensures.loaded (c.as_slice.ensures.value ∙ c.in-Ok-played.ensures.text) c.if-write_all.ensures c.in-Ok-played.ensures.stands
+
+pub returns : goal.returns
+returns g c =
+    cut_off _ c.in-Ok.events.items c.as_slice.result.now c.in-Ok.ensures.loaded (c.as_slice.ensures.value ∙ c.in-Ok-played.ensures.text) c.if-write_all.ensures c.in-Ok-played.ensures.stands

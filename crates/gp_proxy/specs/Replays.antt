@@ -1,0 +1,80 @@
+-- What a status of `replay` says.
+use Rattle.std.specs.Prelude.{ℕ, ◌≡◌, ◌<◌, ◌≤◌, ◌⊎◌, List, [], length, take, All, Option, Some}
+use mathlib.Core.List.{IsPrefix}
+use Rattle.gp_plain.specs.declared.event.Event.{Event}
+use Rattle.gp_plain.specs.History.{held}
+use Rattle.gp_plain.specs.Standing.{Standing, StandsFor}
+use Rattle.gp_plain.specs.Chain.{Chain, AreDistinct, CoversHistory, Follows}
+use Rattle.gp_outside.specs.Counts.{Rose, grown}
+use Rattle.gp_outside.specs.Devices.{SinkTells}
+use Rattle.gp_proxy.specs.Scripts.{IsScript, IsOnlyScript, IsBadLine, entries_of}
+use Rattle.gp_proxy.specs.Outputs.{output}
+use Rattle.gp_proxy.specs.declared.status.Status.{Status}
+use Rattle.gp_proxy.specs.declared.status.Status.TheVariants.{Done, Usage, FileFault, TooLong, BadLine, SinkFault, ListenFault, NoMemory}
+
+-- a play: what is told of the file, the faults of the files and what the sink tells, before and after, and what the
+-- registry then keeps
+pub record Play : Type 0 where
+  pub content : Option (List ℕ)
+  pub file_faults : ℕ
+  pub file_faults_after : ℕ
+  pub sink : SinkTells
+  pub sink_after : SinkTells
+  pub stands : Standing
+
+-- the events are those of the file, and no others are
+abbrev pub IsOfFile : Play → List Event → Type 0
+IsOfFile play events = (bytes : List ℕ) → play.content ≡ Some bytes → IsScript bytes events × IsOnlyScript bytes events × (length bytes ≤ 16777216)
+
+-- nothing was written, and the registry stands for the empty history
+pub record IsUntouched (play : Play) : Type 0 where
+  pub written : play.sink_after.written ≡ play.sink.written
+  pub stands : StandsFor play.stands []
+
+-- the chain law over a script: for every chain that covers a hold, the text of its log is its opening and then the
+-- contents of the chain's items after the hold's first position, in order, each once, none skipped, up to its position
+abbrev pub FollowsChains : List Event → Type 0
+FollowsChains events = (chain : Chain) → AreDistinct chain.root chain.links → CoversHistory chain (entries_of events) → All (Follows chain) (held (entries_of events))
+
+pub record IsDone (play : Play) (events : List Event) : Type 0 where
+  pub script : IsOfFile play events
+  pub written : play.sink_after.written ≡ grown play.sink.written (output events)
+  pub stands : StandsFor play.stands (entries_of events)
+  pub follows : FollowsChains events
+
+-- the sink failed: a first part of the output was written
+pub record IsCutOff (play : Play) (events : List Event) : Type 0 where
+  pub script : IsOfFile play events
+  pub fault : Rose play.sink.faults play.sink_after.faults
+  pub written : (some : List ℕ) × IsPrefix some (output events) × (play.sink_after.written ≡ grown play.sink.written some)
+  pub stands : StandsFor play.stands (entries_of events)
+  pub follows : FollowsChains events
+
+-- memory was wanting: nothing was written, and the first events stand
+pub record IsStopped (play : Play) (events : List Event) (count : ℕ) : Type 0 where
+  pub script : IsOfFile play events
+  pub written : play.sink_after.written ≡ play.sink.written
+  pub stands : StandsFor play.stands (entries_of (take count events))
+
+pub record IsFileFault (play : Play) : Type 0 where
+  pub untouched : IsUntouched play
+  pub fault : Rose play.file_faults play.file_faults_after
+
+pub record IsTooLong (play : Play) : Type 0 where
+  pub untouched : IsUntouched play
+  pub long : (bytes : List ℕ) → play.content ≡ Some bytes → 16777216 < length bytes
+
+pub record IsRefused (play : Play) (line : ℕ) : Type 0 where
+  pub untouched : IsUntouched play
+  pub bad : (bytes : List ℕ) → play.content ≡ Some bytes → IsBadLine bytes line × (length bytes ≤ 16777216)
+
+-- what each status says; `Usage` and `ListenFault` aren't answers of a replay
+abbrev pub Says : Status → Play → Type 0
+Says Done play = (events : List Event) × IsDone play events
+Says SinkFault play = (events : List Event) × IsCutOff play events
+Says NoMemory play = IsUntouched play ⊎ ((events : List Event) × (count : ℕ) × IsStopped play events count)
+Says FileFault play = IsFileFault play
+Says TooLong play = IsTooLong play
+Says (BadLine line) play = IsRefused play line
+Says (Usage place) play = ⊥
+Says ListenFault play = ⊥

@@ -1,0 +1,5 @@
+pub mod Escapes
+pub mod Names
+pub mod Numbers
+pub mod Cuts
+pub mod Guesses

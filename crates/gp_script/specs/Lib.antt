@@ -1,0 +1,5 @@
+pub mod Spelling
+pub mod Lines
+pub mod Texts
+pub mod Guess
+pub mod Faults

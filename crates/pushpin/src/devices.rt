@@ -1,0 +1,126 @@
+//! The files and the standard output of the system. They tell no bytes, and count their faults.
+ghost use Rattle.std.specs.Prelude.{◌≡◌, None, refl};
+
+use gp_outside::{FileRead, Files, Out, World, Written};
+use gp_plain::Body;
+use std::alloc::AllocError;
+use std::fs::File;
+use std::io::{Read, Write};
+
+/// The bytes of a file, at most.
+const FILE: usize = 16777216;
+
+/// The files of the system.
+#[derive(Drop)]
+pub struct StdFiles<'a> {
+    rt: &'a HostRuntime,
+    faults: u64,
+}
+
+/// What a read of a whole file gave; none where it failed.
+fn read_all(rt: &HostRuntime, path: &str) -> Option<FileRead> {
+    let mut file = File::open(rt, path).ok()?;
+    let mut content = Vec::new(rt.alloc());
+    let mut part = [0u8; 8192];
+    for _turn in 0..u64::MAX {
+        let count = file.read(&mut part).ok()?;
+        if count == 0 {
+            break;
+        }
+        match content.extend_from_slice(&part[..count]) {
+            Ok(()) => {}
+            Err(_) => return Some(FileRead::NoMemory),
+        }
+        if content.len() > FILE {
+            return Some(FileRead::TooLong);
+        }
+    }
+    Some(FileRead::Took(Body::from_vec(content)))
+}
+
+impl Files for StdFiles<'_> {
+    ghost content = { λ s path. None };
+
+    ghost faults = { λ s. s.faults };
+
+    fn read(&mut self, path: &str) -> FileRead {
+        match read_all(self.rt, path) {
+            Some(read) => read,
+            None => {
+                self.faults = self.faults.saturating_add(1);
+                FileRead::Failed
+            }
+        }
+    }
+}
+
+/// Standard output, or another writer.
+#[derive(Drop)]
+pub struct StdOut<W: Write + Drop> {
+    inner: W,
+    faults: u64,
+}
+
+impl<W: Write + Drop> Out for StdOut<W> {
+    ghost tells = { λ s. record { written = None; faults = s.faults } };
+
+    fn write(&mut self, from: &[u8]) -> Written {
+        match self.inner.write(from) {
+            Ok(count) if count > 0 => Written::Took(count),
+            _ => {
+                self.faults = self.faults.saturating_add(1);
+                Written::Failed
+            }
+        }
+    }
+}
+
+/// The world of the system.
+#[derive(Drop)]
+pub struct StdWorld<'a, W: Write + Drop> {
+    files: StdFiles<'a>,
+    out: StdOut<W>,
+}
+
+impl<'a, W: Write + Drop> StdWorld<'a, W> {
+    /// The files of the system, and a writer.
+    pub fn new(rt: &'a HostRuntime, out: W) -> StdWorld<'a, W> {
+        StdWorld {
+            files: StdFiles { rt, faults: 0 },
+            out: StdOut {
+                inner: out,
+                faults: 0,
+            },
+        }
+    }
+}
+
+impl<'a, W: Write + Drop> World for StdWorld<'a, W> {
+    type Files = StdFiles<'a>;
+
+    type Out = StdOut<W>;
+
+    ghost files_of = { λ w. w.files };
+
+    ghost out_of = { λ w. w.out };
+
+    ghost with_files = { λ w f. record w { files = f } };
+
+    ghost with_out = { λ w o. record w { out = o } };
+
+    fn files(&mut self) -> &mut StdFiles<'a> {
+        &mut self.files
+    }
+
+    fn out(&mut self) -> &mut StdOut<W> {
+        &mut self.out
+    }
+
+    ghost files_back = { λ w f. refl };
+
+    ghost files_leave_out = { λ w f. refl };
+
+    ghost out_back = { λ w o. refl };
+
+    ghost out_leaves_files = { λ w o. refl };
+}
