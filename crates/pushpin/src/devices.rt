@@ -3,9 +3,8 @@ ghost use Rattle.std.specs.Prelude.{◌≡◌, None, refl};
 
 use gp_outside::{FileRead, Files, Out, World, Written};
 use gp_plain::Body;
-use std::alloc::AllocError;
 use std::fs::File;
-use std::io::{Read, Write};
+use std::io::{self, Read, Write};
 
 /// The bytes of a file, at most.
 const FILE: usize = 16777216;
@@ -17,25 +16,25 @@ pub struct StdFiles<'a> {
     faults: u64,
 }
 
-/// What a read of a whole file gave; none where it failed.
-fn read_all(rt: &HostRuntime, path: &str) -> Option<FileRead> {
-    let mut file = File::open(rt, path).ok()?;
+/// A read of a whole file, or none where it failed.
+fn read_all(rt: &HostRuntime, path: &str) -> io::Result<FileRead> {
+    let mut file = File::open(rt, path)?;
     let mut content = Vec::new(rt.alloc());
     let mut part = [0u8; 8192];
     for _turn in 0..u64::MAX {
-        let count = file.read(&mut part).ok()?;
+        let count = file.read(&mut part)?;
         if count == 0 {
             break;
         }
         match content.extend_from_slice(&part[..count]) {
             Ok(()) => {}
-            Err(_) => return Some(FileRead::NoMemory),
+            Err(_) => return Ok(FileRead::NoMemory),
         }
         if content.len() > FILE {
-            return Some(FileRead::TooLong);
+            return Ok(FileRead::TooLong);
         }
     }
-    Some(FileRead::Took(Body::from_vec(content)))
+    Ok(FileRead::Took(Body::from_vec(content)))
 }
 
 impl Files for StdFiles<'_> {
@@ -45,8 +44,10 @@ impl Files for StdFiles<'_> {
 
     fn read(&mut self, path: &str) -> FileRead {
         match read_all(self.rt, path) {
-            Some(read) => read,
-            None => {
+            Ok(FileRead::Took(content)) => FileRead::Took(content),
+            Ok(FileRead::TooLong) => FileRead::TooLong,
+            Ok(FileRead::NoMemory) => FileRead::NoMemory,
+            Ok(FileRead::Failed) | Err(_) => {
                 self.faults = self.faults.saturating_add(1);
                 FileRead::Failed
             }
@@ -75,30 +76,28 @@ impl<W: Write + Drop> Out for StdOut<W> {
     }
 }
 
-/// The world of the system.
+/// A world of some files and a sink.
 #[derive(Drop)]
-pub struct StdWorld<'a, W: Write + Drop> {
-    files: StdFiles<'a>,
-    out: StdOut<W>,
+pub struct Devices<F: Files, O: Out> {
+    files: F,
+    out: O,
 }
 
-impl<'a, W: Write + Drop> StdWorld<'a, W> {
-    /// The files of the system, and a writer.
-    pub fn new(rt: &'a HostRuntime, out: W) -> StdWorld<'a, W> {
-        StdWorld {
-            files: StdFiles { rt, faults: 0 },
-            out: StdOut {
-                inner: out,
-                faults: 0,
-            },
-        }
+/// The files of the system, and a writer.
+pub fn over_system<W: Write + Drop>(rt: &HostRuntime, out: W) -> Devices<StdFiles<'_>, StdOut<W>> {
+    Devices {
+        files: StdFiles { rt, faults: 0 },
+        out: StdOut {
+            inner: out,
+            faults: 0,
+        },
     }
 }
 
-impl<'a, W: Write + Drop> World for StdWorld<'a, W> {
-    type Files = StdFiles<'a>;
+impl<F: Files, O: Out> World for Devices<F, O> {
+    type Files = F;
 
-    type Out = StdOut<W>;
+    type Out = O;
 
     ghost files_of = { λ w. w.files };
 
@@ -108,11 +107,11 @@ impl<'a, W: Write + Drop> World for StdWorld<'a, W> {
 
     ghost with_out = { λ w o. record w { out = o } };
 
-    fn files(&mut self) -> &mut StdFiles<'a> {
+    fn files(&mut self) -> &mut F {
         &mut self.files
     }
 
-    fn out(&mut self) -> &mut StdOut<W> {
+    fn out(&mut self) -> &mut O {
         &mut self.out
     }
 

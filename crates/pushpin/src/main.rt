@@ -6,7 +6,7 @@
 mod devices;
 mod texts;
 
-use devices::StdWorld;
+use devices::over_system;
 use gp_proxy::{Registry, Status, run};
 use std::process::ExitCode;
 use std::{env, io};
@@ -58,7 +58,7 @@ fn play(rt: &HostRuntime) -> Status {
         };
     }
     let mut registry = Registry::new(rt.alloc());
-    let mut world = StdWorld::new(rt, io::writer(rt));
+    let mut world = over_system(rt, io::writer(rt));
     run(rt.alloc(), words.as_slice(), &mut registry, &mut world)
 }
 
