@@ -1,9 +1,9 @@
 -- Every reliable stream hold follows every chain that covers it.
-use Rattle.std.proofs.Common.{◌≡◌, ◌≢◌, ℕ, zero, suc, Bool, true, false, cond, not, ◌&&◌, ◌||◌, ◌==◌, List, [], ◌∷◌, ◌++◌, length, map, fold, take, drop, refl, sym, ap, ◌∙◌, subst, append_assoc, Option, Some, None, All, is_some}
-use Rattle.std.specs.List.{AllByRecursion, list_any}
+use Rattle.std.proofs.Common.{◌≡◌, ℕ, zero, suc, Bool, true, false, cond, not, ◌&&◌, ◌||◌, ◌==◌, List, [], ◌∷◌, ◌++◌, map, fold, refl, sym, ap, ◌∙◌, subst, append_assoc, Option, Some, None, All, is_some}
+use Rattle.std.specs.List.{AllByRecursion}
 use Rattle.std.specs.Cmp.Lexicographic.{same_text}
 use Rattle.std.proofs.Math.Bool.{or-false}
-use Rattle.std.proofs.lemmas.List.{append-nil, take-append-drop}
+use Rattle.std.proofs.lemmas.List.{take-append-drop}
 use Rattle.std.proofs.lemmas.List.Elements.{All-from_recursion}
 use Rattle.std.proofs.lemmas.List.Sums.{fold-append}
 use Rattle.gp_plain.specs.declared.item.Item.{Item}
@@ -15,13 +15,12 @@ use Rattle.gp_plain.specs.declared.event.HoldSpec.{HoldSpec}
 use Rattle.gp_plain.specs.declared.event.HoldSpec.TheVariants.{Stream, Plain, Response, Socket}
 use Rattle.gp_plain.specs.declared.reply.Piece.{Piece}
 use Rattle.gp_plain.specs.declared.reply.EndCause.{EndCause}
-use Rattle.gp_plain.specs.declared.reply.EndCause.TheVariants.{Closed, Overflow}
-use Rattle.gp_plain.specs.Names.{same_id}
+use Rattle.gp_plain.specs.declared.reply.EndCause.TheVariants.{Overflow}
 use Rattle.gp_plain.specs.Items.{content_of, closes, is_on}
 use Rattle.gp_plain.specs.Pieces.{piece_bytes, text, moved, position_after, closed_by, end_by, has_room, batch_count, batch, left}
-use Rattle.gp_plain.specs.Holds.{Held, log, is_live, added, run, run_for, run_by, terms_of, position, position_of, comes_next, is_heard, piece_of, is_same, offered, served, settled, marked, misses, grew, begun, after_take, after_detach, openings, end_or_detached}
-use Rattle.gp_plain.specs.History.{kept_count, has_place, changed_if, changed, after_event, after, held}
-use Rattle.gp_plain.specs.Chain.{Link, Chain, IsNoneOf, AreDistinct, bytes_of, last_id, IsLinked, IsBetween, CoversIds, CoversItem, CoversEvent, CoversHistory, IsIn, NoneCloses, FollowsLog, FollowsBy, Follows}
+use Rattle.gp_plain.specs.Holds.{Held, log, is_live, added, run, run_for, terms_of, position, position_of, comes_next, is_heard, piece_of, is_same, offered, served, begun, after_take, after_detach, openings, end_or_detached}
+use Rattle.gp_plain.specs.History.{has_place, changed, after_event, after, held}
+use Rattle.gp_plain.specs.Chain.{Link, Chain, IsNoneOf, AreDistinct, bytes_of, last_id, IsLinked, CoversIds, CoversItem, CoversEvent, CoversHistory, NoneCloses, FollowsLog, FollowsBy, Follows}
 
 pub text-append : (ps qs : List Piece) → text (ps ++ qs) ≡ text ps ++ text qs
 text-append [] qs = refl

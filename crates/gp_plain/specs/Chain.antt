@@ -1,5 +1,5 @@
 -- Chains of items, and what they say of a log.
-use Rattle.std.specs.Prelude.{ℕ, ◌≡◌, ◌≢◌, Bool, true, false, List, [], ◌∷◌, ◌++◌, Option, Some, None, All}
+use Rattle.std.specs.Prelude.{ℕ, ◌≡◌, ◌≢◌, false, List, [], ◌∷◌, ◌++◌, Option, Some, None, All}
 use Rattle.gp_plain.specs.Items.{content_of, closes}
 use Rattle.gp_plain.specs.Pieces.{text, position_after}
 use Rattle.gp_plain.specs.Holds.{Held, log}

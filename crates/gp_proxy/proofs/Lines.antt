@@ -1,12 +1,12 @@
 -- Lines, and the scripts that they make.
-use Rattle.std.proofs.Common.{◌≡◌, ◌≢◌, ◌==◌, Bool, true, false, eqb-true, ℕ, suc, ◌+◌, ◌-◌, ◌^◌, ◌<◌, ◌≤◌, min, List, [], ◌∷◌, ◌++◌, length, take, drop, get_or, All, refl, sym, ap, ◌∙◌, subst, arith, add-one, drop-cons, length-append}
+use Rattle.std.proofs.Common.{◌≡◌, ◌≢◌, ◌==◌, true, false, eqb-true, ℕ, suc, ◌+◌, ◌-◌, ◌^◌, ◌<◌, min, List, [], ◌∷◌, ◌++◌, length, take, drop, get_or, refl, sym, ap, ◌∙◌, subst, arith, add-one, drop-cons, length-append}
 use Rattle.std.specs.List.{AllByRecursion}
 use Rattle.std.proofs.lemmas.List.{take_more, take-append-drop}
 use Rattle.std.proofs.lemmas.List.Elements.{recursion_from_All}
 use Rattle.gp_plain.specs.declared.event.Event.{Event}
 use Rattle.gp_script.specs.Lines.{IsEvent, IsInGrammar, Spells}
-use Rattle.gp_proxy.specs.Scripts.{IsOneLine, BeginsWith, Leaves, IsScript, IsOnlyScript, IsNoScript, IsBad, IsBadLine}
-use Rattle.gp_proxy.specs.Reads.{IsLine, Reads, IsAllOfIt}
+use Rattle.gp_proxy.specs.Scripts.{IsOneLine, BeginsWith, Leaves, IsScript, IsOnlyScript, IsBad, IsBadLine}
+use Rattle.gp_proxy.specs.Reads.{IsLine, Reads}
 
 one_line-push : (xs : List ℕ) (b : ℕ) → IsOneLine xs → b ≢ 10 → IsOneLine (xs ++ b ∷ [])
 one_line-push [] b one ne = (ne, tt)

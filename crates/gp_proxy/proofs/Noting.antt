@@ -1,5 +1,5 @@
 -- What is kept of the holds beside the registry goes with the history.
-use Rattle.std.proofs.Common.{◌≡◌, ℕ, zero, suc, length, slice_get, ◌==◌, Bool, true, false, cond, not, ◌||◌, List, [], ◌∷◌, ◌++◌, map, fold, Option, Some, None, is_some, refl, sym, ap, ◌∙◌, subst, append_assoc}
+use Rattle.std.proofs.Common.{◌≡◌, ℕ, zero, suc, length, slice_get, ◌==◌, Bool, true, false, cond, not, ◌||◌, List, [], ◌∷◌, ◌++◌, map, Option, Some, None, is_some, refl, sym, ap, ◌∙◌, append_assoc}
 use Rattle.std.specs.Option.{option_map_or}
 use Rattle.std.specs.List.{flat_map}
 use Rattle.std.proofs.lemmas.List.{append-nil, map-append}
@@ -15,14 +15,13 @@ use Rattle.gp_plain.specs.declared.reply.EndCause.{EndCause}
 use Rattle.gp_plain.specs.declared.reply.EndCause.TheVariants.{Overflow}
 use Rattle.gp_plain.specs.declared.reply.Reply.{Reply}
 use Rattle.gp_plain.specs.declared.reply.Reply.TheVariants.{Attached, Full, Published, Repeat, Taken, Paged, Stale, Done, Foreign, Gone, OtherKind, Unknown}
-use Rattle.gp_plain.specs.Pieces.{moved, position_after, end_by, has_room, batch, left, text}
+use Rattle.gp_plain.specs.Pieces.{moved, end_by, has_room, batch, left, text}
 use Rattle.gp_plain.specs.Holds.{Held, log, position, position_of, terms_of, is_live, added, run, run_for, offered, served, begun, taken_of, after_take, after_detach, end_or_detached, ends_now}
-use Rattle.gp_plain.specs.History.{has_place, if_kept, kept_at, refused_or, changed, changed_if, after_event, answer, pending_at, cause_at}
+use Rattle.gp_plain.specs.History.{has_place, if_kept, kept_at, refused_or, changed, after_event, answer, pending_at, cause_at}
 use Rattle.gp_plain.proofs.ChainLaw.{run_spec, text-append}
 use Rattle.gp_script.specs.Texts.{hold_text, piece_text, end_text}
 use Rattle.gp_proxy.specs.declared.log.Log.{Log}
-use Rattle.gp_proxy.specs.declared.log.Noted.{Noted}
-use Rattle.gp_proxy.specs.Logs.{start_of, log_of, noted_of, longer, begun_if, taken_if, let_go_if, after_note, log_position, whole_text, or_end}
+use Rattle.gp_proxy.specs.Logs.{start_of, log_of, noted_of, begun_if, taken_if, let_go_if, after_note, log_position, whole_text, or_end}
 use Rattle.gp_proxy.specs.Outputs.{log_text}
 
 absurd_true : {A : Type 0} → false ≡ true → A

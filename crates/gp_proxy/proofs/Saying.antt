@@ -1,15 +1,15 @@
 -- What the parts of a replay say together.
-use Rattle.std.proofs.Common.{◌≡◌, ◌⊎◌, inl, inr, ℕ, List, [], take, length, Option, Some, None, refl, sym, ap, ◌∙◌, subst}
+use Rattle.std.proofs.Common.{◌≡◌, inl, inr, ℕ, List, [], take, Option, Some, None, refl, sym, ap, ◌∙◌, subst}
 use mathlib.Core.List.{IsPrefix}
 use Rattle.gp_plain.specs.declared.event.Event.{Event}
 use Rattle.gp_plain.specs.Standing.{Standing, StandsFor}
 use Rattle.gp_plain.proofs.ChainLaw.{chain_law_holds}
-use Rattle.gp_outside.specs.Counts.{Rose, grown}
+use Rattle.gp_outside.specs.Counts.{grown}
 use Rattle.gp_outside.specs.Devices.{SinkTells, WroteAll, WrotePart}
 use Rattle.gp_proxy.specs.Scripts.{entries_of}
 use Rattle.gp_proxy.specs.Outputs.{output}
 use Rattle.gp_proxy.specs.Loads.{Load, IsLoaded, IsNotLoaded}
-use Rattle.gp_proxy.specs.Replays.{Play, IsOfFile, IsUntouched, FollowsChains, IsDone, IsCutOff, IsStopped, IsFileFault, IsTooLong, IsRefused, Says}
+use Rattle.gp_proxy.specs.Replays.{Play, Says}
 use Rattle.gp_proxy.specs.Runs.{RunSays}
 use Rattle.gp_proxy.specs.declared.status.Status.{Status}
 use Rattle.gp_proxy.specs.declared.status.Status.TheVariants.{Done, Usage, FileFault, TooLong, BadLine, SinkFault, ListenFault, NoMemory}

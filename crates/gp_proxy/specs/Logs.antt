@@ -1,5 +1,5 @@
 -- What a replay keeps of each hold beside the registry: the pieces that Takes gave, and the end of a released hold.
-use Rattle.std.specs.Prelude.{ℕ, zero, suc, Bool, true, false, cond, List, [], ◌∷◌, ◌++◌, Option, Some, None, option_map}
+use Rattle.std.specs.Prelude.{ℕ, zero, suc, cond, List, [], ◌∷◌, ◌++◌, Option, Some, None, option_map}
 use Rattle.std.specs.List.{flat_map}
 use Rattle.gp_plain.specs.declared.event.Event.{Event}
 use Rattle.gp_plain.specs.declared.event.Event.TheVariants.{Attach, Publish, Take, Page, PageFailed, Push, Join, Leave, Detach}
@@ -8,7 +8,7 @@ use Rattle.gp_plain.specs.declared.event.HoldSpec.TheVariants.{Stream, Plain, Re
 use Rattle.gp_plain.specs.declared.reply.Piece.{Piece}
 use Rattle.gp_plain.specs.declared.reply.EndCause.{EndCause}
 use Rattle.gp_plain.specs.declared.reply.Reply.{Reply}
-use Rattle.gp_plain.specs.declared.reply.Reply.TheVariants.{Attached, Full, Published, Repeat, Taken, Paged, Stale, Done, Foreign, Gone, OtherKind, Unknown}
+use Rattle.gp_plain.specs.declared.reply.Reply.TheVariants.{Attached, Taken, Done}
 use Rattle.gp_plain.specs.Pieces.{text, position_after}
 use Rattle.gp_plain.specs.Holds.{Held, log, terms_of, end_or_detached}
 use Rattle.gp_plain.specs.History.{pending_at, cause_at}

@@ -1,5 +1,5 @@
 -- What a read of a script gave.
-use Rattle.std.specs.Prelude.{ℕ, ◌≡◌, ◌+◌, ◌-◌, ◌^◌, min, List, [], ◌∷◌, length}
+use Rattle.std.specs.Prelude.{ℕ, ◌≡◌, List, [], ◌∷◌}
 use Rattle.gp_plain.specs.declared.event.Event.{Event}
 use Rattle.gp_script.specs.Lines.{IsEvent, Spells}
 use Rattle.gp_proxy.specs.Scripts.{BeginsWith, IsBadLine, IsScript, IsOnlyScript}

@@ -1,5 +1,5 @@
 -- The grammar of the command line: `replay FILE`.
-use Rattle.std.specs.Prelude.{ℕ, ◌≡◌, cond, List, [], ◌∷◌, map, Option, Some, None, codes, eqb}
+use Rattle.std.specs.Prelude.{ℕ, cond, List, [], ◌∷◌, Option, Some, None, codes, eqb}
 use Rattle.std.specs.Cmp.Lexicographic.{pointwise}
 
 -- after `replay` comes one word, which may be any, and nothing more

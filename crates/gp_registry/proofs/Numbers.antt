@@ -1,5 +1,5 @@
 -- Numbers that rise, and a list that loses one or gets one more.
-use Rattle.std.proofs.Common.{◌≡◌, ◌≢◌, ℕ, zero, suc, ◌+◌, ◌<◌, ◌≤◌, List, [], ◌∷◌, ◌++◌, length, map, take, drop, get_or, arith, refl, sym, ap, ◌∙◌, subst}
+use Rattle.std.proofs.Common.{◌≡◌, ℕ, zero, suc, ◌+◌, ◌<◌, ◌≤◌, List, [], ◌∷◌, ◌++◌, length, map, get_or, arith, refl, sym, ap, subst}
 use Rattle.std.specs.List.{remove}
 use Rattle.gp_registry.specs.Stages.{Rises, AllBelow}
 

@@ -1,5 +1,5 @@
 -- What a search by number finds, and what a change of the hold that it found is to the kept holds.
-use Rattle.std.proofs.Common.{◌≡◌, ◌≢◌, ℕ, zero, suc, ◌+◌, ◌<◌, ◌≤◌, ◌==◌, Bool, true, false, cond, ltb, List, [], ◌∷◌, ◌++◌, length, map, take, drop, get_or, Option, Some, None, arith, refl, sym, ap, ◌∙◌, subst, eqb-true, eq-eqb, length-append}
+use Rattle.std.proofs.Common.{◌≡◌, ◌≢◌, ℕ, zero, suc, ◌+◌, ◌<◌, ◌≤◌, ◌==◌, Bool, true, false, ltb, List, [], ◌∷◌, ◌++◌, length, map, get_or, Some, None, arith, refl, sym, ap, ◌∙◌, subst, eqb-true, eq-eqb, length-append}
 use Rattle.std.specs.List.{AllWithin, remove}
 use Rattle.std.proofs.Math.ListN.{set}
 use Rattle.std.specs.List.Sorted.{IsNonDecreasingBy}
@@ -9,8 +9,8 @@ use borrow.Author.Tests.{ltb-true, ltb-false}
 use Rattle.gp_plain.specs.Standing.{Kept}
 use Rattle.gp_registry.specs.declared.hold.Hold.{Hold}
 use Rattle.gp_registry.specs.Stages.{kept_hold, number_of, Rises, AllBelow, IsInOrder}
-use Rattle.gp_registry.specs.Places.{IsPlaceOf, HasNone}
-use Rattle.gp_registry.specs.Steps.{found, if_own, replaced, instead, kept_after_detach}
+use Rattle.gp_registry.specs.Places.{HasNone}
+use Rattle.gp_registry.specs.Steps.{found, replaced, instead, kept_after_detach}
 use Rattle.gp_registry.proofs.Numbers.{rises_le, rises_push, rises_remove, below_push, below_remove, map-remove}
 
 pub rises_by : (hs : List Hold) → Rises 0 (map number_of hs) → IsNonDecreasingBy number_of hs

@@ -1,5 +1,5 @@
 -- A step on what a registry keeps is the step of the history.
-use Rattle.std.proofs.Common.{◌≡◌, ◌≢◌, ℕ, zero, suc, ◌+◌, ◌<◌, ◌≤◌, ◌==◌, Bool, true, false, cond, not, ◌||◌, ◌&&◌, nat_lt, List, [], ◌∷◌, ◌++◌, length, map, count_by, fold, slice_get, Option, Some, None, is_some, option_map, refl, ap, sym, subst, ◌∙◌, arith, length-append, append_assoc, add-zero, add-suc, add-one, eq-eqb}
+use Rattle.std.proofs.Common.{◌≡◌, ℕ, zero, suc, ◌+◌, ◌<◌, ◌≤◌, ◌==◌, Bool, true, false, cond, not, ◌||◌, ◌&&◌, nat_lt, List, [], ◌∷◌, ◌++◌, length, map, fold, slice_get, Option, Some, None, is_some, option_map, refl, ap, sym, subst, ◌∙◌, arith, length-append, append_assoc, add-zero, eq-eqb}
 use Rattle.std.proofs.lemmas.Bool.Decides.{nat_tests}
 use Rattle.std.proofs.lemmas.List.{length-map}
 use Rattle.std.proofs.lemmas.List.Sums.{fold-append}
@@ -14,13 +14,13 @@ use Rattle.gp_plain.specs.declared.reply.Piece.{Piece}
 use Rattle.gp_plain.specs.declared.reply.EndCause.{EndCause}
 use Rattle.gp_plain.specs.declared.reply.EndCause.TheVariants.{Overflow}
 use Rattle.gp_plain.specs.declared.reply.Reply.{Reply}
-use Rattle.gp_plain.specs.declared.reply.Reply.TheVariants.{Attached, Full, Published, Taken, Done, Foreign, Unknown}
-use Rattle.gp_plain.specs.Pieces.{moved, position_after, end_by, has_room, batch, left}
-use Rattle.gp_plain.specs.Holds.{Held, log, position, position_of, terms_of, is_live, added, run, run_for, misses, marked, grew, settled, offered, served, asks, recover_from, ends_now, taken_of, after_take, after_detach, begun}
+use Rattle.gp_plain.specs.declared.reply.Reply.TheVariants.{Attached, Full, Published, Taken, Done, Foreign}
+use Rattle.gp_plain.specs.Pieces.{moved, end_by, has_room, batch, left}
+use Rattle.gp_plain.specs.Holds.{Held, log, position, position_of, terms_of, is_live, added, run, run_for, misses, grew, offered, served, asks, ends_now, taken_of, after_take, after_detach, begun}
 use Rattle.gp_plain.specs.History.{kept_count, has_place, if_kept, kept_at, refused_or, changed_if, changed, after_event, after, held, answer, reply, pending_at, position_at, position_if, cause_at}
 use Rattle.gp_plain.specs.Standing.{Kept, Standing, kept_of, kept_from, standing_of, StandsFor}
 use Rattle.gp_plain.proofs.ChainLaw.{take_log}
-use Rattle.gp_registry.specs.Keeps.{is_live_kept, moved_position, added_kept, run_kept, grew_kept, marked_kept, settled_kept, offered_kept, served_kept, asks_kept, taken_kept, after_take_kept}
+use Rattle.gp_registry.specs.Keeps.{moved_position, added_kept, run_kept, grew_kept, marked_kept, settled_kept, offered_kept, served_kept, asks_kept, taken_kept}
 use Rattle.gp_registry.specs.Steps.{found, if_own, replaced, kept_after_take, kept_after_detach, has_place_kept, stepped, refused_or_kept, answered, kept_pending, kept_position, kept_cause}
 
 -- one hold

@@ -1,12 +1,11 @@
 -- What an event does to a kept hold. A log that was taken is forgotten, so this speaks of what waits.
-use Rattle.std.specs.Prelude.{ℕ, Bool, true, false, cond, nat_lt, not, ◌&&◌, ◌||◌, List, [], ◌∷◌, ◌++◌, length, fold, Option, Some, None, is_some, option_map}
+use Rattle.std.specs.Prelude.{ℕ, Bool, cond, nat_lt, not, ◌&&◌, ◌||◌, List, [], ◌∷◌, ◌++◌, length, fold, Option, Some, is_some, option_map}
 use Rattle.gp_plain.specs.declared.item.Item.{Item}
 use Rattle.gp_plain.specs.declared.reply.Piece.{Piece}
-use Rattle.gp_plain.specs.declared.reply.EndCause.{EndCause}
 use Rattle.gp_plain.specs.declared.reply.EndCause.TheVariants.{Overflow}
 use Rattle.gp_plain.specs.declared.reply.Taken.{Taken}
 use Rattle.gp_plain.specs.Pieces.{moved, end_by, has_room, batch, left}
-use Rattle.gp_plain.specs.Holds.{run_for, misses, ends_now, recover_from, end_or_detached}
+use Rattle.gp_plain.specs.Holds.{run_for, misses, ends_now, recover_from}
 use Rattle.gp_plain.specs.Standing.{Kept}
 
 abbrev pub is_live_kept : Kept → Bool

@@ -1,4 +1,4 @@
-use Rattle.std.proofs.Common.{◌≡◌, take, drop, length, vec_capacity}
+use Rattle.std.proofs.Common.{◌≡◌, take, drop, vec_capacity}
 use Rattle.std.specs.VecDeque.{deque_capacity}
 use Rattle.gp_plain.proofs.pending.moved_out.Given as goal
 

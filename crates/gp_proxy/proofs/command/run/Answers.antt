@@ -1,5 +1,4 @@
-use Rattle.std.proofs.Common.{◌≡◌, ◌∙◌, refl, sym, ap, List, ℕ, map, string_bytes}
-use Rattle.gp_proxy.specs.Words.{usage_of, path_of}
+use Rattle.std.proofs.Common.{◌∙◌, refl, sym, ap}
 use Rattle.gp_proxy.proofs.Saying.{not_loaded, stopped, done, cut_off, play_at, lent, faulty}
 use Rattle.gp_proxy.proofs.command.run.Goals as goal
 

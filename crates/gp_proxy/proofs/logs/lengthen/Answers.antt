@@ -1,5 +1,4 @@
-use Rattle.std.proofs.Common.{◌≡◌, ◌∙◌, ◌<◌, ◌≤◌, length, ap, arith}
-use Rattle.gp_plain.specs.declared.reply.Piece.{Piece}
+use Rattle.std.proofs.Common.{◌<◌, ◌≤◌, length, ap, arith}
 use Rattle.gp_proxy.specs.declared.log.Log.{Log}
 use Rattle.gp_proxy.proofs.Lists.{longer_set, longer_out}
 use Rattle.gp_proxy.proofs.logs.lengthen.Goals as goal

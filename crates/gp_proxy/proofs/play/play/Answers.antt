@@ -1,4 +1,4 @@
-use Rattle.std.proofs.Common.{◌≡◌, ◌∙◌, ◌++◌, [], ap, append_assoc, arith, lit<}
+use Rattle.std.proofs.Common.{◌∙◌, ◌++◌, [], ap, append_assoc, arith}
 use Rattle.std.proofs.lemmas.Result.{on_ok_weaker}
 use Rattle.gp_plain.specs.History.{held}
 use Rattle.gp_plain.specs.Standing.{Standing}

@@ -1,4 +1,4 @@
-use Rattle.std.proofs.Common.{◌≡◌, ◌∙◌, ◌++◌, ap, inr}
+use Rattle.std.proofs.Common.{◌∙◌, ◌++◌, ap, inr}
 use Rattle.std.proofs.lemmas.Result.{on_ok_weaker}
 use Rattle.gp_script.specs.Texts.{reply_text}
 use Rattle.gp_proxy.proofs.Lists.{on_ok_given}

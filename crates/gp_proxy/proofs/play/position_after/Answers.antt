@@ -1,4 +1,4 @@
-use Rattle.std.proofs.Common.{◌≡◌, ◌∙◌, sym, ap, take, add-one, arith}
+use Rattle.std.proofs.Common.{◌∙◌, sym, ap, take, add-one, arith}
 use Rattle.std.proofs.lemmas.List.{take_all}
 use Rattle.gp_plain.specs.Pieces.{moved, position_after}
 use Rattle.gp_proxy.proofs.Lists.{position_more}

@@ -1,4 +1,4 @@
-use Rattle.std.proofs.Common.{◌≡◌, ◌∙◌, ◌++◌, sym, ap, take, append_assoc, add-one, arith}
+use Rattle.std.proofs.Common.{◌∙◌, ◌++◌, sym, ap, take, append_assoc, add-one, arith}
 use Rattle.std.proofs.lemmas.List.{take_all}
 use Rattle.gp_plain.specs.Pieces.{piece_bytes, text}
 use Rattle.gp_proxy.proofs.Lists.{flat_map_more}

@@ -1,4 +1,4 @@
-use Rattle.std.proofs.Common.{◌≡◌, ◌∙◌, ◌++◌, ◌+◌, ◌≤◌, List, Some, length, take, sym, ap, append_assoc, add-one, arith}
+use Rattle.std.proofs.Common.{◌∙◌, ◌++◌, ◌≤◌, List, Some, length, take, sym, ap, append_assoc, add-one, arith}
 use Rattle.std.proofs.lemmas.List.{take_all, length-map}
 use Rattle.std.proofs.lemmas.Option.{slice_get-get_or}
 use Rattle.gp_plain.specs.Holds.{Held}

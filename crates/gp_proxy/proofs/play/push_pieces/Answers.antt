@@ -1,4 +1,4 @@
-use Rattle.std.proofs.Common.{◌≡◌, ◌∙◌, ◌++◌, sym, ap, take, append_assoc, add-one, arith}
+use Rattle.std.proofs.Common.{◌∙◌, ◌++◌, sym, ap, take, append_assoc, add-one, arith}
 use Rattle.std.specs.List.{flat_map}
 use Rattle.std.proofs.lemmas.List.{take_all}
 use Rattle.gp_script.specs.Texts.{piece_text}

@@ -1,5 +1,4 @@
-use Rattle.std.proofs.Common.{◌∙◌, refl, subst, sym, List, ℕ}
-use Rattle.gp_outside.specs.Devices.{WroteAll, WrotePart}
+use Rattle.std.proofs.Common.{◌∙◌, refl}
 use Rattle.gp_proxy.proofs.Saying.{not_loaded, stopped, done, cut_off}
 use Rattle.gp_proxy.proofs.replays.replay.Goals as goal
 

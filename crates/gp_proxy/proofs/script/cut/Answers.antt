@@ -1,4 +1,4 @@
-use Rattle.std.proofs.Common.{◌≡◌, ◌∙◌, ◌+◌, ◌-◌, ◌≤◌, sym, ap, subst, length, take, drop, List, ℕ, arith, length-drop}
+use Rattle.std.proofs.Common.{◌≡◌, ◌+◌, ◌-◌, sym, subst, length, take, drop, List, ℕ, arith, length-drop}
 use Rattle.std.proofs.lemmas.List.{take_all}
 use Rattle.gp_proxy.specs.Scripts.{BeginsWith}
 use Rattle.gp_proxy.proofs.Lines.{one_more, begins_at}

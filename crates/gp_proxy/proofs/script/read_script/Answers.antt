@@ -1,9 +1,8 @@
-use Rattle.std.proofs.Common.{◌≡◌, ◌≢◌, ◌+◌, ◌-◌, ◌^◌, ◌++◌, ◌∷◌, [], ℕ, min, true, List, length, sym, ap, ◌∙◌, subst, arith, length-append, All, refl}
+use Rattle.std.proofs.Common.{◌≡◌, ◌∷◌, [], true, List, length, sym, ap, ◌∙◌, subst, arith, length-append, All, refl}
 use Rattle.std.proofs.lemmas.List.Elements.{All-push}
 use Rattle.gp_plain.specs.Fit.{fits}
 use Rattle.gp_plain.specs.declared.event.Event.{Event}
 use Rattle.gp_proxy.specs.Reads.{IsLine, Reads}
-use Rattle.gp_proxy.specs.Scripts.{BeginsWith}
 use Rattle.gp_proxy.proofs.Lines.{reads-push, leaves_of, only_of, bad_line_of, no_feed, not_in_grammar, next_shorter, none_left, some_left}
 use Rattle.gp_proxy.proofs.script.read_script.Goals as goal
 

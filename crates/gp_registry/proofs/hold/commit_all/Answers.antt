@@ -1,4 +1,4 @@
-use Rattle.std.proofs.Common.{◌≡◌, ◌∙◌, ◌<◌, ◌+◌, length, arith, subst, sym, ap, count_by, take, get_or}
+use Rattle.std.proofs.Common.{◌<◌, length, arith, subst, sym}
 use Rattle.std.proofs.lemmas.List.Sums.{count_by_more_yes, count_by_more_no}
 use Rattle.gp_registry.specs.Stages.{kept_hold, committed, HasRoom, appends}
 use Rattle.gp_registry.proofs.Turns.{same_head, same_tail, next_done}

@@ -1,4 +1,4 @@
-use Rattle.std.proofs.Common.{◌≡◌, ◌∙◌, sym, ap, subst, List, [], ◌∷◌, map, get_or}
+use Rattle.std.proofs.Common.{◌∙◌, sym, ap, subst, map}
 use Rattle.std.proofs.Math.Seq.{map-set_same}
 use Rattle.gp_plain.specs.Standing.{Kept}
 use Rattle.gp_registry.specs.declared.hold.Hold.{Hold}

@@ -1,5 +1,5 @@
 -- What is left has the bytes of what was there without those that were given.
-use Rattle.std.proofs.Common.{◌≡◌, ◌+◌, arith, length, drop, take, length-drop, ap, ◌∙◌}
+use Rattle.std.proofs.Common.{arith, length, length-drop, ap, ◌∙◌}
 use Rattle.std.specs.List.{sum_by}
 use Rattle.std.proofs.lemmas.List.Sums.{sum_by-take-drop}
 use Rattle.gp_plain.specs.Pieces.{weight}

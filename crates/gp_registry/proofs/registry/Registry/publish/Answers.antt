@@ -1,4 +1,4 @@
-use Rattle.std.proofs.Common.{◌≡◌, ◌∙◌, sym, ap, subst, map, length, arith, List}
+use Rattle.std.proofs.Common.{◌∙◌, sym, ap, subst, map, arith, List}
 use Rattle.std.specs.Vec.{with_items}
 use Rattle.std.proofs.lemmas.List.{with_items_is}
 use Rattle.gp_registry.specs.declared.hold.Hold.{Hold}
