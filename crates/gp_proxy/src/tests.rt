@@ -20,7 +20,7 @@ fn world(
     let path = Body::new(alloc, b"script")?;
     let content = Body::new(alloc, script)?;
     let files = MemFiles::new(alloc, path, content, turns(alloc, read)?);
-    let out = MemOut::new(alloc, 4096, turns(alloc, write)?)?;
+    let out = MemOut::new(alloc, 2_000_000, turns(alloc, write)?)?;
     Ok(MemWorld::new(files, out))
 }
 
@@ -130,5 +130,55 @@ fn faults_have_their_status(rt: HostRuntime) -> Result<(), Fail> {
     assert_eq!(rt; unwritten, Status::SinkFault);
     assert_eq!(rt; unwritten.exit(), 5);
     assert_eq!(rt; unwritten.words(), "cannot write");
+    Ok(())
+}
+
+/// A line of a first part and so many bytes `x`.
+fn push_long(script: &mut Vec<u8>, lead: &str, count: usize) -> Result<(), AllocError> {
+    script.extend_from_slice(lead.as_bytes())?;
+    for _turn in 0..count {
+        script.push(b'x')?;
+    }
+    script.push(b'\n')?;
+    Ok(())
+}
+
+/// With an opening of 262,144 bytes and no take there is room for four items of 65,536 bytes.
+fn overflowing(alloc: Global) -> Result<Vec<u8>, AllocError> {
+    let mut script = Vec::new(alloc);
+    push_long(&mut script, "attach stream news 0 link ", 262_144)?;
+    push_long(&mut script, "publish news 1 0 ", 65_536)?;
+    push_long(&mut script, "publish news 2 1 ", 65_536)?;
+    push_long(&mut script, "publish news 3 2 ", 65_536)?;
+    push_long(&mut script, "publish news 4 3 ", 65_536)?;
+    push_long(&mut script, "publish news 5 4 ", 65_536)?;
+    push_long(&mut script, "publish news 6 5 ", 1)?;
+    push_long(&mut script, "publish news 5 4 ", 1)?;
+    push_long(&mut script, "publish news 7 6 ", 1)?;
+    Ok(script)
+}
+
+#[test]
+fn a_hold_overflows(rt: HostRuntime) -> Result<(), Fail> {
+    let script = overflowing(rt.alloc())?;
+    let (status, written) = played(rt.alloc(), script.as_slice())?;
+    let replies =
+        b"attached 0\npublished 1\npublished 1\npublished 1\npublished 1\npublished 0\npublished 0\npublished 0\npublished 0\nhold 0 stream\n".as_slice();
+    assert_eq!(rt; status, Status::Done);
+    assert!(rt; written.as_slice().starts_with(replies));
+    assert!(rt;
+        written
+            .as_slice()
+            .ends_with(b"\nended overflow 4\n".as_slice())
+    );
+    Ok(())
+}
+
+#[test]
+fn a_long_file_is_refused(rt: HostRuntime) -> Result<(), Fail> {
+    let script = vec![in rt.alloc(); b'x'; 16_777_217]?;
+    let (status, written) = played(rt.alloc(), script.as_slice())?;
+    assert_eq!(rt; status, Status::TooLong);
+    assert_eq!(rt; written.len(), 0);
     Ok(())
 }
