@@ -1,0 +1,15 @@
+pub mod ReadingLemmas
+pub mod RunLemmas
+pub mod WholeLemmas
+pub mod EndLemmas
+pub mod CountLemmas
+pub mod PlanLemmas
+pub mod PieceLemmas
+pub mod ChunkLemmas
+pub mod GrammarComplete
+pub mod GrammarRest
+pub mod GrammarSound
+pub mod GrammarOpen
+pub mod GrammarReads
+pub mod GrammarFaults
+pub mod LawLemmas

@@ -1,0 +1,7 @@
+pub mod Steps
+pub mod Readings
+pub mod Wholes
+pub mod Plans
+pub mod Bodies
+pub mod Laws
+pub mod Chunks
