@@ -1,0 +1,12 @@
+pub mod Texts
+pub mod Numbers
+pub mod Channels
+pub mod Links
+pub mod Targets
+pub mod Taken
+pub mod Fields
+pub mod Asked
+pub mod Holds
+pub mod Heads
+pub mod Spec
+pub mod Page

@@ -1,0 +1,6 @@
+pub mod Steps
+pub mod Texts
+pub mod Members
+pub mod Payloads
+pub mod Fields
+pub mod Responses
