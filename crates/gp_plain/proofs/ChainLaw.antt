@@ -1,26 +1,32 @@
--- Every reliable stream hold follows every chain that covers it.
-use Rattle.std.proofs.Common.{◌≡◌, ℕ, zero, suc, Bool, true, false, cond, not, ◌&&◌, ◌||◌, ◌==◌, List, [], ◌∷◌, ◌++◌, map, fold, refl, sym, ap, ◌∙◌, subst, append_assoc, Option, Some, None, All, is_some}
-use Rattle.std.specs.List.{AllByRecursion}
+-- Every reliable stream hold follows every chain that covers it, and leaves nothing of the window behind.
+use Rattle.std.proofs.Common.{◌≡◌, ℕ, zero, suc, ◌+◌, ◌-◌, ◌≤◌, Bool, true, false, cond, not, ◌&&◌, ◌||◌, nat_le, nat_lt, List, [], ◌∷◌, ◌++◌, length, map, drop, fold, eqb, refl, sym, ap, ◌∙◌, subst, arith, append_assoc, Option, Some, None, All, is_some, option_map}
+use Rattle.std.specs.List.{AllByRecursion, list_any, find}
+use Rattle.std.specs.Option.{option_map_or}
 use Rattle.std.specs.Cmp.Lexicographic.{same_text}
 use Rattle.std.proofs.Math.Bool.{or-false}
-use Rattle.std.proofs.lemmas.List.{take-append-drop}
-use Rattle.std.proofs.lemmas.List.Elements.{All-from_recursion}
-use Rattle.std.proofs.lemmas.List.Sums.{fold-append}
+use Rattle.std.proofs.lemmas.Bool.{eq-eqb}
+use Rattle.std.proofs.lemmas.List.{append-nil, length-append}
+use Rattle.std.proofs.lemmas.List.Elements.{All-from_recursion, recursion_from_All}
+use Rattle.std.proofs.lemmas.List.Folds.{list_any-append, list_any_none}
 use Rattle.gp_plain.specs.declared.item.Item.{Item}
 use Rattle.gp_plain.specs.declared.item.StreamPart.{StreamPart}
 use Rattle.gp_plain.specs.declared.event.Entry.{Entry}
-use Rattle.gp_plain.specs.declared.event.Event.{Event}
-use Rattle.gp_plain.specs.declared.event.Event.TheVariants.{Attach, Publish, Take, Page, PageFailed, Push, Join, Leave, Detach}
+use Rattle.gp_plain.specs.declared.event.HoldKind.TheVariants.{Stream as StreamKind}
 use Rattle.gp_plain.specs.declared.event.HoldSpec.{HoldSpec}
 use Rattle.gp_plain.specs.declared.event.HoldSpec.TheVariants.{Stream, Plain, Response, Socket}
 use Rattle.gp_plain.specs.declared.reply.Piece.{Piece}
 use Rattle.gp_plain.specs.declared.reply.EndCause.{EndCause}
-use Rattle.gp_plain.specs.declared.reply.EndCause.TheVariants.{Overflow}
-use Rattle.gp_plain.specs.Items.{content_of, closes, is_on}
-use Rattle.gp_plain.specs.Pieces.{piece_bytes, text, moved, position_after, closed_by, end_by, has_room, batch_count, batch, left}
-use Rattle.gp_plain.specs.Holds.{Held, log, is_live, added, run, run_for, terms_of, position, position_of, comes_next, is_heard, piece_of, is_same, offered, served, begun, after_take, after_detach, openings, end_or_detached}
-use Rattle.gp_plain.specs.History.{has_place, changed, after_event, after, held}
-use Rattle.gp_plain.specs.Chain.{Link, Chain, IsNoneOf, AreDistinct, bytes_of, last_id, IsLinked, CoversIds, CoversItem, CoversEvent, CoversHistory, NoneCloses, FollowsLog, FollowsBy, Follows}
+use Rattle.gp_plain.specs.declared.reply.EndCause.TheVariants.{Gap, Overflow}
+use Rattle.gp_plain.specs.Names.{same_id}
+use Rattle.gp_plain.specs.Items.{is_chained, is_id, comes_after, content_of, closes, is_on}
+use Rattle.gp_plain.specs.Follow.{last_items, is_heard, is_next, without_first, going_on, follow_within, follow}
+use Rattle.gp_plain.specs.Pieces.{piece_bytes, text, moved, id_or, closed_by, end_by, has_room, batch, left}
+use Rattle.gp_plain.specs.Holds.{Terms, State, Held, terms_of, is_live, added, run, marked, missed, gapped, can_ask, offered, shows_gap, leaves_gap, run_for, run_by, chain_run, comes_next, piece_of, piece_by, ends_by, settled, settled_if, grew, served, wants_more, opened, followers, caught_up, begun_state, begun, timed, asks, rest_of, after_take, taken_from, let_go, end_or_detached, log, position, ended}
+use Rattle.gp_plain.specs.History.{served_by, held, published, window}
+use Rattle.gp_plain.specs.Chain.{Link, Chain, IsNoneOf, AreDistinct, bytes_of, last_id, IsIn, IsLinked, IsBetween, CoversIds, CoversItem, CoversHistory, NoneCloses, FollowsLog, CoversSpec, Follows, HasAll}
+use Rattle.gp_plain.proofs.Windows.{drop_all, all_snoc, all_front, all_last, window_more}
+use Rattle.gp_plain.proofs.Histories.{IsKept, in_each_history}
+use Rattle.gp_plain.proofs.Soundness.{Fits, run_fits, timed_fits, taken_again, sound}
 
 pub text-append : (ps qs : List Piece) → text (ps ++ qs) ≡ text ps ++ text qs
 text-append [] qs = refl
@@ -60,7 +66,7 @@ no_snoc (x ∷ front) l e = absurd_nil {x = x} {xs = front ++ l ∷ []} e
 absurd_some : {A : Type 0} {cause : EndCause} → Some cause ≡ None → A
 absurd_some e = cc
 
-absurd_true : {A : Type 0} → false ≡ true → A
+pub absurd_true : {A : Type 0} → false ≡ true → A
 absurd_true e = cc
 
 none_closes-append : (xs ys : List Link) → NoneCloses xs → NoneCloses ys → NoneCloses (xs ++ ys)
@@ -82,176 +88,557 @@ open_by : (xs : List Link) (l : Link) (b : Bool) → closes l.stream ≡ b → c
 open_by xs l true e n p = absurd_some n
 open_by xs l false e n p = none_closes-append xs (l ∷ []) p (e, tt)
 
--- the chain's next item goes on from a log that follows the chain and isn't closed
-next_follows : (c : Chain) (opening start : List ℕ) (pieces : List Piece) (id prev : List ℕ) (stream : Option StreamPart) (piece : Piece) → AreDistinct c.root c.links
-    → piece_bytes piece ≡ content_of stream → moved (position_after start pieces) piece ≡ id → prev ≡ position_after start pieces → IsLinked c id prev stream
-    → FollowsLog c opening start pieces None → FollowsLog c opening start (pieces ++ piece ∷ []) (closed_by (closes stream))
-next_follows c opening start pieces id prev stream piece d bytes moves at linked f =
-    let before = f.place.before in
-    let up = before ++ f.between in
-    let whole : c.links ≡ up ++ f.place.rest = f.place.whole ∙ sym (append_assoc before f.between f.place.rest) in
-    let last : last_id c.root up ≡ position_after start pieces = last_id-append c.root before f.between ∙ ap (λ p. last_id p f.between) f.place.from_is ∙ f.place.to_is in
-    let l : Link = record { id = id; stream = stream } in
-    let p = one_place c.root up f.place.rest linked.before (l ∷ linked.rest) (subst (AreDistinct c.root) whole d) (sym whole ∙ linked.whole) (last ∙ sym at ∙ sym linked.prev_is) in
-    record {
-      between = f.between ++ l ∷ [];
-      place = record {
-        before = before;
-        rest = linked.rest;
-        whole = f.place.whole ∙ ap (λ r. before ++ (f.between ++ r)) p.1 ∙ ap (λ r. before ++ r) (sym (append_assoc f.between (l ∷ []) linked.rest));
-        from_is = f.place.from_is;
-        to_is = last_id-append start f.between (l ∷ []) ∙ sym moves ∙ sym (fold-append moved start pieces (piece ∷ []));
-      };
-      bytes = text-append pieces (piece ∷ []) ∙ ap (λ b. text pieces ++ (b ++ [])) bytes ∙ ap (λ b. b ++ (content_of stream ++ [])) f.bytes
-          ∙ append_assoc opening (bytes_of f.between) (content_of stream ++ []) ∙ ap (λ b. opening ++ b) (sym (bytes_of-append f.between (l ∷ [])));
-      still_open = λ n. open_by f.between l (closes stream) refl n (f.still_open refl);
-      closes_last = λ front k e. subst NoneCloses (snoc_front f.between front l k e) (f.still_open refl);
-    }
+none_more : (m n : ℕ) → suc m + n ≡ n → ⊥
+none_more m n e = omega (arith, e)
 
--- a log that follows a chain still does so once the hold has ended
-ended_follows : (c : Chain) (opening start : List ℕ) (pieces : List Piece) (ended : Option EndCause) (cause : EndCause)
-    → FollowsLog c opening start pieces ended → FollowsLog c opening start pieces (Some cause)
-ended_follows c opening start pieces ended cause f = record { between = f.between; place = record { before = f.place.before; rest = f.place.rest; whole = f.place.whole; from_is = f.place.from_is; to_is = f.place.to_is }; bytes = f.bytes; still_open = λ n. absurd_some n; closes_last = f.closes_last }
+-- an id further on in a chain is another
+moved_on : {A : Type 0} (root : List ℕ) (up more rest : List Link) (l : Link) → AreDistinct root (up ++ ((l ∷ more) ++ rest)) → last_id root up ≡ last_id root (up ++ l ∷ more) → A
+moved_on root up more rest l d e =
+    let p = one_place root up ((l ∷ more) ++ rest) (up ++ l ∷ more) rest d (sym (append_assoc up (l ∷ more) rest)) e in
+    let same : length ((l ∷ more) ++ rest) ≡ length rest = ap length p.1 in
+    let long : length ((l ∷ more) ++ rest) ≡ length (l ∷ more) + length rest = length-append (l ∷ more) rest in
+    absurd (none_more (length more) (length rest) (sym long ∙ same))
 
--- an item that comes next is the chain's next item
-added_by : (c : Chain) (opening start : List ℕ) (h : Held) (id prev : Option (List ℕ)) (stream : Option StreamPart) (piece : Piece) (room : Bool) → AreDistinct c.root c.links
-    → piece_bytes piece ≡ content_of stream → ((own : List ℕ) → id ≡ Some own → moved (position_after start (log h)) piece ≡ own) → end_by piece ≡ closed_by (closes stream)
-    → CoversIds c id prev stream → (is_some id && is_same prev (Some (position_after start (log h)))) ≡ true → h.ended ≡ None → FollowsLog c opening start (log h) h.ended
-    → FollowsLog c opening start (log (cond room (record h { pending = h.pending ++ piece ∷ []; ended = end_by piece }) (record h { ended = Some Overflow })))
-    (cond room (record h { pending = h.pending ++ piece ∷ []; ended = end_by piece }) (record h { ended = Some Overflow })).ended
-added_by c opening start h id prev stream piece false d bytes moves ends cov e n f = ended_follows c opening start (log h) h.ended Overflow f
-added_by c opening start h None prev stream piece true d bytes moves ends cov e n f = absurd_true e
-added_by c opening start h (Some id) None stream piece true d bytes moves ends cov e n f = absurd_true e
-added_by c opening start h (Some id) (Some prev) stream piece true d bytes moves ends cov e n f =
-    let at = same_text prev (position_after start (log h)) (sym e) in
-    let g = next_follows c opening start (log h) id prev stream piece d bytes (moves id refl) at cov (subst (FollowsLog c opening start (log h)) n f) in
-    subst (λ end. FollowsLog c opening start (h.taken ++ (h.pending ++ piece ∷ [])) end) (sym ends) (subst (λ ps. FollowsLog c opening start ps (closed_by (closes stream))) (append_assoc h.taken h.pending (piece ∷ [])) g)
+-- what the items are that a chain's next item can be
+abbrev pub nexts : Chain → List ℕ → Item → Bool
+nexts c at item = is_next (c.channel ∷ []) at item
 
-piece_moves : (item : Item) (at own : List ℕ) → item.id ≡ Some own → moved at (piece_of item) ≡ own
-piece_moves item at own e = rw e refl
+abbrev pub None-next : Chain → List ℕ → List Item → Type 0
+None-next c at items = AllByRecursion (λ (i : Item). nexts c at i ≡ false) items
 
-live_by : (released : Bool) (ended : Option EndCause) → not (released || is_some ended) ≡ true → ended ≡ None
-live_by true ended e = absurd_true e
-live_by false None e = refl
-live_by false (Some cause) e = absurd_true e
+-- each link is that of an item that was published
+abbrev pub Came : Chain → List Item → List ℕ → List Link → Type 0
+Came c items from [] = Unit {0}
+Came c items from (l ∷ links) = (list_any (λ (i : Item). nexts c from i && is_id i.id l.id) items ≡ true) × Came c items l.id links
 
-added_if : (c : Chain) (opening start : List ℕ) (item : Item) (h : Held) (live : Bool) → is_live h ≡ live → AreDistinct c.root c.links
-    → CoversIds c item.id item.prev item.stream → comes_next item (Some (position_after start (log h))) ≡ true → FollowsLog c opening start (log h) h.ended
-    → FollowsLog c opening start (log (cond live (cond (has_room h.pending (piece_of item)) (record h { pending = h.pending ++ piece_of item ∷ []; ended = end_by (piece_of item) }) (record h { ended = Some Overflow })) h))
-    (cond live (cond (has_room h.pending (piece_of item)) (record h { pending = h.pending ++ piece_of item ∷ []; ended = end_by (piece_of item) }) (record h { ended = Some Overflow })) h).ended
-added_if c opening start item h false l d cov e f = f
-added_if c opening start item h true l d cov e f =
-    added_by c opening start h item.id item.prev item.stream (piece_of item) (has_room h.pending (piece_of item)) d refl (piece_moves item (position_after start (log h))) refl cov e (live_by h.released h.ended l) f
+came-append : (c : Chain) (items : List Item) (from : List ℕ) (xs ys : List Link) → Came c items from xs → Came c items (last_id from xs) ys → Came c items from (xs ++ ys)
+came-append c items from [] ys p q = q
+came-append c items from (x ∷ xs) ys p q = (p.0, came-append c items x.id xs ys p.1 q)
 
--- a run of the item, where it is heard and comes next
-run_follows_by : (c : Chain) (opening start : List ℕ) (item : Item) (h : Held) (heard next : Bool) → AreDistinct c.root c.links
-    → (heard ≡ true → CoversIds c item.id item.prev item.stream) → comes_next item (Some (position_after start (log h))) ≡ next → FollowsLog c opening start (log h) h.ended
-    → FollowsLog c opening start (log (run h (cond heard (cond next (piece_of item ∷ []) []) []))) (run h (cond heard (cond next (piece_of item ∷ []) []) [])).ended
-run_follows_by c opening start item h false next d cov e f = f
-run_follows_by c opening start item h true false d cov e f = f
-run_follows_by c opening start item h true true d cov e f = added_if c opening start item h (is_live h) refl d (cov refl) e f
+or_true : (a b : Bool) → a ≡ true → (a || b) ≡ true
+or_true true b e = refl
+or_true false b e = absurd_true e
+
+came_more : (c : Chain) (items : List Item) (item : Item) (from : List ℕ) (links : List Link) → Came c items from links → Came c (items ++ item ∷ []) from links
+came_more c items item from [] p = tt
+came_more c items item from (l ∷ links) p =
+    let q : Item → Bool = λ (i : Item). nexts c from i && is_id i.id l.id in
+    (list_any-append q items (item ∷ []) ∙ or_true (list_any q items) (list_any q (item ∷ [])) p.0, came_more c items item l.id links p.1)
+
+-- a hold of which some was taken stands at a place of a chain
+pub record At (c : Chain) (items : List Item) (opening start : List ℕ) (taken : List Piece) (between : List Link) (at : List ℕ) (s : State) : Type 0 where
+  pub position_is : s.position ≡ Some at
+  pub place : IsBetween c start at between
+  pub bytes : text (taken ++ s.pending) ≡ opening ++ bytes_of between
+  pub still_open : s.ended ≡ None → NoneCloses between
+  pub closes_last : (front : List Link) (l : Link) → between ≡ front ++ l ∷ [] → NoneCloses front
+  pub came : Came c items start between
+
+-- an item that was published
+pub record Good (c : Chain) (items : List Item) (item : Item) : Type 0 where
+  pub covered : CoversItem c item
+  pub there : (q : Item → Bool) → q item ≡ true → list_any q items ≡ true
+
+-- a run took it further, and nothing of a list is left
+pub record Went (c : Chain) (items : List Item) (opening start : List ℕ) (taken : List Piece) (from : List Item) (between : List Link) (s : State) : Type 0 where
+  pub more : List Link
+  pub at : List ℕ
+  pub now : At c items opening start taken (between ++ more) at s
+  pub none : s.ended ≡ None → None-next c at from
+
+stays : (c : Chain) (items : List Item) (opening start : List ℕ) (taken : List Piece) (from : List Item) (between : List Link) (at : List ℕ) (s : State)
+    → At c items opening start taken between at s → (s.ended ≡ None → None-next c at from) → Went c items opening start taken from between s
+stays c items opening start taken from between at s a none = record {
+  more = [];
+  at = at;
+  now = subst (λ ls. At c items opening start taken ls at s) (sym (append-nil between)) a;
+  none = none;
+}
+
+ids_of : (id prev : Option (List ℕ)) (at : List ℕ) → (is_some id && is_id prev at) ≡ true → (own : List ℕ) × (id ≡ Some own) × (prev ≡ Some at)
+ids_of None prev at e = absurd_true e
+ids_of (Some own) None at e = absurd_true e
+ids_of (Some own) (Some p) at e = (own, refl, ap Some (same_text p at (sym e)))
+
+pub and_left : (a b : Bool) → (a && b) ≡ true → a ≡ true
+and_left true b e = refl
+and_left false b e = absurd_true e
+
+pub and_right : (a b : Bool) → (a && b) ≡ true → b ≡ true
+and_right true b e = e
+and_right false b e = absurd_true e
 
 heard_channel : (item : Item) (channel : List ℕ) → (is_on channel item || false) ≡ true → item.channel ≡ channel
 heard_channel item channel e = same_text item.channel channel (sym (sym (or-false (is_on channel item)) ∙ e))
 
-offered_by : (c : Chain) (item : Item) (h : Held) (spec : HoldSpec) → AreDistinct c.root c.links → CoversItem c item → FollowsBy c spec (log h) h.ended
-    → FollowsBy c spec (log (run h (run_for (terms_of spec) (position_of spec (log h)) item))) (run h (run_for (terms_of spec) (position_of spec (log h)) item)).ended
-offered_by c item h (Stream opening channel prev link) d cov f = λ same at.
-    run_follows_by c opening prev item h (is_heard (terms_of (Stream opening channel prev link)) item) (comes_next item (Some (position_after prev (log h)))) d (λ e. cov (heard_channel item channel e ∙ same)) refl (f same at)
-offered_by c item h (Plain opening channels) d cov f = tt
-offered_by c item h (Response channels prev deadline again) d cov f = tt
-offered_by c item h Socket d cov f = tt
+linked_by : (c : Chain) (id prev : Option (List ℕ)) (own at : List ℕ) (stream : Option StreamPart) → id ≡ Some own → prev ≡ Some at → CoversIds c id prev stream → IsLinked c own at stream
+linked_by c id prev own at stream e f cov = subst (λ i. CoversIds c i (Some at) stream) e (subst (λ p. CoversIds c id p stream) f cov)
 
-added_spec_by : (h : Held) (p : Piece) (live room : Bool)
-    → (cond live (cond room (record h { pending = h.pending ++ p ∷ []; ended = end_by p }) (record h { ended = Some Overflow })) h).spec ≡ h.spec
-added_spec_by h p false room = refl
-added_spec_by h p true true = refl
-added_spec_by h p true false = refl
+-- the item as a link of the chain
+pub record Linked (c : Chain) (item : Item) (at : List ℕ) : Type 0 where
+  pub own : List ℕ
+  pub id_is : item.id ≡ Some own
+  pub linked : IsLinked c own at item.stream
 
--- a run leaves what the hold asked for
-pub run_spec : (h : Held) (ps : List Piece) → (run h ps).spec ≡ h.spec
-run_spec h [] = refl
-run_spec h (p ∷ ps) = run_spec (added h p) ps ∙ added_spec_by h p (is_live h) (has_room h.pending p)
+linked_of : (c : Chain) (items : List Item) (item : Item) (at : List ℕ) → Good c items item → nexts c at item ≡ true → Linked c item at
+linked_of c items item at g e =
+    let heard = and_left (is_heard (c.channel ∷ []) item) (comes_after item at) e in
+    let ids = ids_of item.id item.prev at (and_right (is_heard (c.channel ∷ []) item) (comes_after item at) e) in
+    record { own = ids.0; id_is = ids.1; linked = linked_by c item.id item.prev ids.0 at item.stream ids.1 ids.2 (g.covered (heard_channel item c.channel heard)) }
 
-offered_follows : (c : Chain) (item : Item) (h : Held) → AreDistinct c.root c.links → CoversItem c item → Follows c h → Follows c (offered item h)
-offered_follows c item h d cov f =
-    let next = run h (run_for (terms_of h.spec) (position h) item) in
-    subst (λ (spec : HoldSpec). FollowsBy c spec (log next) next.ended) (sym (run_spec h (run_for (terms_of h.spec) (position h) item))) (offered_by c item h h.spec d cov f)
+pub and_both : (a b : Bool) → a ≡ true → b ≡ true → (a && b) ≡ true
+and_both true b e f = f
+and_both false b e f = absurd_true e
 
-served_by : (c : Chain) (item : Item) (h : Held) (live : Bool) → AreDistinct c.root c.links → CoversItem c item → Follows c h → Follows c (cond live (offered item h) h)
-served_by c item h true d cov f = offered_follows c item h d cov f
-served_by c item h false d cov f = f
+pub same_ids : (xs : List ℕ) → same_id xs xs ≡ true
+same_ids [] = refl
+same_ids (x ∷ xs) = and_both (eqb x x) (same_id xs xs) (eq-eqb x x refl) (same_ids xs)
 
-served_all : (c : Chain) (item : Item) (hs : List Held) → AreDistinct c.root c.links → CoversItem c item
-    → AllByRecursion (Follows c) hs → AllByRecursion (Follows c) (map (served item) hs)
-served_all c item [] d cov all = tt
-served_all c item (h ∷ hs) d cov all = (served_by c item h (is_live h) d cov all.0, served_all c item hs d cov all.1)
+own_id : (id : Option (List ℕ)) (own : List ℕ) → id ≡ Some own → is_id id own ≡ true
+own_id id own e = ap (λ i. is_id i own) e ∙ same_ids own
 
--- a fresh hold has its opening alone
-begun_by : (c : Chain) (spec : HoldSpec) → FollowsBy c spec (openings spec) None
-begun_by c (Stream opening channel prev link) = λ same at. record {
-  between = [];
+-- the chain's next item goes on from a hold that isn't closed
+next_at : (c : Chain) (items : List Item) (opening start : List ℕ) (taken : List Piece) (between : List Link) (at : List ℕ) (s : State) (item : Item) (k : Linked c item at)
+    → AreDistinct c.root c.links → Good c items item → nexts c at item ≡ true → s.ended ≡ None → At c items opening start taken between at s
+    → At c items opening start taken (between ++ (record { id = k.own; stream = item.stream }) ∷ []) k.own
+    (record s { pending = s.pending ++ piece_of item ∷ []; position = option_map (λ (p : List ℕ). moved p (piece_of item)) s.position; ended = end_by (piece_of item); misses = 0 })
+next_at c items opening start taken between at s item k d g e live a =
+    let before = a.place.before in
+    let up = before ++ between in
+    let whole : c.links ≡ up ++ a.place.rest = a.place.whole ∙ sym (append_assoc before between a.place.rest) in
+    let last : last_id c.root up ≡ at = last_id-append c.root before between ∙ ap (λ p. last_id p between) a.place.from_is ∙ a.place.to_is in
+    let l : Link = record { id = k.own; stream = item.stream } in
+    let p = one_place c.root up a.place.rest k.linked.before (l ∷ k.linked.rest) (subst (AreDistinct c.root) whole d) (sym whole ∙ k.linked.whole) (last ∙ sym k.linked.prev_is) in
+    record {
+      position_is = ap (option_map (λ (q : List ℕ). moved q (piece_of item))) a.position_is ∙ ap (λ i. Some (id_or i at)) k.id_is;
+      place = record {
+        before = before;
+        rest = k.linked.rest;
+        whole = a.place.whole ∙ ap (λ r. before ++ (between ++ r)) p.1 ∙ ap (λ r. before ++ r) (sym (append_assoc between (l ∷ []) k.linked.rest));
+        from_is = a.place.from_is;
+        to_is = last_id-append start between (l ∷ []);
+      };
+      bytes = ap text (sym (append_assoc taken s.pending (piece_of item ∷ []))) ∙ text-append (taken ++ s.pending) (piece_of item ∷ [])
+          ∙ ap (λ b. b ++ (content_of item.stream ++ [])) a.bytes
+          ∙ append_assoc opening (bytes_of between) (content_of item.stream ++ []) ∙ ap (λ b. opening ++ b) (sym (bytes_of-append between (l ∷ [])));
+      still_open = λ n. open_by between l (closes item.stream) refl n (a.still_open live);
+      closes_last = λ front m q. subst NoneCloses (snoc_front between front l m q) (a.still_open live);
+      came = came-append c items start between (l ∷ []) a.came (
+        g.there (λ (i : Item). nexts c (last_id start between) i && is_id i.id k.own)
+            (and_both (nexts c (last_id start between) item) (is_id item.id k.own) (ap (λ q. nexts c q item) a.place.to_is ∙ e) (own_id item.id k.own k.id_is)),
+        tt,
+      );
+    }
+
+-- a hold that has ended is where it was
+ended_at : (c : Chain) (items : List Item) (opening start : List ℕ) (taken : List Piece) (between : List Link) (at : List ℕ) (s : State) (cause : EndCause)
+    → At c items opening start taken between at s → At c items opening start taken between at (record s { ended = Some cause })
+ended_at c items opening start taken between at s cause a = record { position_is = a.position_is; place = a.place; bytes = a.bytes; still_open = λ n. absurd_some n; closes_last = a.closes_last; came = a.came }
+
+live_by : (e : Option EndCause) → not (is_some e) ≡ true → e ≡ None
+live_by None p = refl
+live_by (Some cause) p = absurd_true p
+
+dead_by : {A : Type 0} (e : Option EndCause) → not (is_some e) ≡ false → e ≡ None → A
+dead_by None p n = absurd_true (sym p)
+dead_by (Some cause) p n = absurd_some n
+
+dead_added : (s : State) (p : Piece) → is_live s ≡ false → added s p ≡ s
+dead_added s p e = ap (λ b. cond b (cond (has_room s.pending p) (record s { pending = s.pending ++ p ∷ []; position = option_map (λ (at : List ℕ). moved at p) s.position; ended = end_by p; misses = 0 }) (record s { ended = Some Overflow })) s) e
+
+-- nothing is added to a hold that ended
+pub dead_run : (s : State) (ps : List Piece) → is_live s ≡ false → run s ps ≡ s
+dead_run s [] e = refl
+dead_run s (p ∷ ps) e = ap (λ t. run t ps) (dead_added s p e) ∙ dead_run s ps e
+
+-- the item behind which a hold stands doesn't come next
+behind : (c : Chain) (items : List Item) (opening start : List ℕ) (taken : List Piece) (between more : List Link) (l : Link) (at now : List ℕ) (s : State) (item : Item) (b : Bool)
+    → AreDistinct c.root c.links → last_id start between ≡ at → nexts c at item ≡ true → At c items opening start taken (between ++ l ∷ more) now s → nexts c now item ≡ b → b ≡ false
+behind c items opening start taken between more l at now s item false d from e a f = refl
+behind c items opening start taken between more l at now s item true d from e a f =
+    let there = ids_of item.id item.prev now (and_right (is_heard (c.channel ∷ []) item) (comes_after item now) f) in
+    let here = ids_of item.id item.prev at (and_right (is_heard (c.channel ∷ []) item) (comes_after item at) e) in
+    let same : at ≡ now = cc (here.2, there.2) in
+    let up = a.place.before ++ between in
+    let whole : c.links ≡ up ++ ((l ∷ more) ++ a.place.rest) =
+    a.place.whole ∙ ap (λ ls. a.place.before ++ ls) (append_assoc between (l ∷ more) a.place.rest) ∙ sym (append_assoc a.place.before between ((l ∷ more) ++ a.place.rest)) in
+    let last : last_id c.root up ≡ at = last_id-append c.root a.place.before between ∙ ap (λ p. last_id p between) a.place.from_is ∙ from in
+    let far : last_id c.root (up ++ l ∷ more) ≡ now =
+    ap (last_id c.root) (append_assoc a.place.before between (l ∷ more)) ∙ last_id-append c.root a.place.before (between ++ l ∷ more) ∙ ap (λ p. last_id p (between ++ l ∷ more)) a.place.from_is ∙ a.place.to_is in
+    moved_on c.root up more a.place.rest l (subst (AreDistinct c.root) whole d) (last ∙ same ∙ sym far)
+
+-- what is there after an item that comes next, by what comes of the rest
+stepped : (c : Chain) (items : List Item) (opening start : List ℕ) (taken : List Piece) (from : List Item) (between : List Link) (at : List ℕ) (s : State) (item : Item) (next : List ℕ → List Item) (live room close : Bool)
+    → AreDistinct c.root c.links → Good c items item → nexts c at item ≡ true → At c items opening start taken between at s → is_live s ≡ live → closes item.stream ≡ close
+    → ((b : List Link) (p : List ℕ) (t : State) → At c items opening start taken b p t → Went c items opening start taken from b (run t (map piece_of (next p))))
+    → Went c items opening start taken (item ∷ from) between
+    (run (cond live (cond room (record s { pending = s.pending ++ piece_of item ∷ []; position = option_map (λ (q : List ℕ). moved q (piece_of item)) s.position; ended = end_by (piece_of item); misses = 0 }) (record s { ended = Some Overflow })) s)
+    (map piece_of (cond close [] (next (id_or item.id at)))))
+stepped c items opening start taken from between at s item next false room close d g e a l k rest =
+    subst (Went c items opening start taken (item ∷ from) between) (sym (dead_run s (map piece_of (cond close [] (next (id_or item.id at)))) l))
+    (stays c items opening start taken (item ∷ from) between at s a (λ n. dead_by s.ended l n))
+stepped c items opening start taken from between at s item next true false close d g e a l k rest =
+    let t : State = record s { ended = Some Overflow } in
+    subst (Went c items opening start taken (item ∷ from) between) (sym (dead_run t (map piece_of (cond close [] (next (id_or item.id at)))) refl))
+    (stays c items opening start taken (item ∷ from) between at t (ended_at c items opening start taken between at s Overflow a) (λ n. absurd_some n))
+stepped c items opening start taken from between at s item next true true true d g e a l k rest =
+    let link = linked_of c items item at g e in
+    let now = next_at c items opening start taken between at s item link d g e (live_by s.ended l) a in
+    record { more = (record { id = link.own; stream = item.stream }) ∷ []; at = link.own; now = now; none = λ n. absurd_some (sym (ap closed_by k) ∙ n) }
+stepped c items opening start taken from between at s item next true true false d g e a l k rest =
+    let link = linked_of c items item at g e in
+    let x : Link = record { id = link.own; stream = item.stream } in
+    let t : State = record s { pending = s.pending ++ piece_of item ∷ []; position = option_map (λ (q : List ℕ). moved q (piece_of item)) s.position; ended = end_by (piece_of item); misses = 0 } in
+    let now = next_at c items opening start taken between at s item link d g e (live_by s.ended l) a in
+    let went = subst (λ p. Went c items opening start taken from (between ++ x ∷ []) (run t (map piece_of (next p)))) (sym (ap (λ i. id_or i at) link.id_is)) (rest (between ++ x ∷ []) link.own t now) in
+    let there = subst (λ ls. At c items opening start taken ls went.at (run t (map piece_of (next (id_or item.id at))))) (append_assoc between (x ∷ []) went.more) went.now in
+    record {
+      more = x ∷ went.more;
+      at = went.at;
+      now = there;
+      none = λ n. (behind c items opening start taken between went.more x at went.at (run t (map piece_of (next (id_or item.id at)))) item (nexts c went.at item) d a.place.to_is e there refl, went.none n);
+    }
+
+absurd_found : {A : Type 0} {item : Item} → None ≡ Some item → A
+absurd_found e = cc
+
+-- what is found in a list
+pub record Found (P : Item → Type 0) (q : Item → Bool) (item : Item) : Type 0 where
+  pub good : P item
+  pub test : q item ≡ true
+
+mutual_found : (q : Item → Bool) (P : Item → Type 0) (x item : Item) (b : Bool) (o : Option Item) → q x ≡ b → cond b (Some x) o ≡ Some item → P x → (o ≡ Some item → Found P q item) → Found P q item
+mutual_found q P x item true o t e p rest = let same : x ≡ item = cc e in record { good = subst P same p; test = ap q (sym same) ∙ t }
+mutual_found q P x item false o t e p rest = rest e
+
+find_good : (q : Item → Bool) (P : Item → Type 0) (items : List Item) (item : Item) → find q items ≡ Some item → AllByRecursion P items → Found P q item
+find_good q P [] item e all = absurd_found e
+find_good q P (x ∷ items) item e all = mutual_found q P x item (q x) (find q items) refl e all.0 (λ f. find_good q P items item f all.1)
+
+not_found_by : (q : Item → Bool) (x : Item) (items : List Item) (b : Bool) → q x ≡ b → cond b (Some x) (find q items) ≡ None → (find q items ≡ None → AllByRecursion (λ (i : Item). q i ≡ false) items)
+    → AllByRecursion (λ (i : Item). q i ≡ false) (x ∷ items)
+not_found_by q x items true t e rest = absurd_found (sym e)
+not_found_by q x items false t e rest = (t, rest e)
+
+none_found : (q : Item → Bool) (items : List Item) → find q items ≡ None → AllByRecursion (λ (i : Item). q i ≡ false) items
+none_found q [] e = tt
+none_found q (x ∷ items) e = not_found_by q x items (q x) refl e (none_found q items)
+
+left_by : (q : Item → Bool) (P : Item → Type 0) (x : Item) (items : List Item) (b : Bool) → P x → AllByRecursion P items → AllByRecursion P (without_first q items) → AllByRecursion P (cond b items (x ∷ without_first q items))
+left_by q P x items true p all rest = all
+left_by q P x items false p all rest = (p, rest)
+
+left_good : (q : Item → Bool) (P : Item → Type 0) (items : List Item) → AllByRecursion P items → AllByRecursion P (without_first q items)
+left_good q P [] all = tt
+left_good q P (x ∷ items) all = left_by q P x items (q x) all.0 all.1 (left_good q P items all.1)
+
+back_by : (q : Item → Bool) (P : Item → Type 0) (x item : Item) (items : List Item) (b : Bool) → cond b (Some x) (find q items) ≡ Some item → P item → AllByRecursion P (cond b items (x ∷ without_first q items))
+    → (find q items ≡ Some item → AllByRecursion P (without_first q items) → AllByRecursion P items) → AllByRecursion P (x ∷ items)
+back_by q P x item items true e p all rest = let same : x ≡ item = cc e in (subst P (sym same) p, all)
+back_by q P x item items false e p all rest = (all.0, rest e all.1)
+
+back : (q : Item → Bool) (P : Item → Type 0) (items : List Item) (item : Item) → find q items ≡ Some item → P item → AllByRecursion P (without_first q items) → AllByRecursion P items
+back q P [] item e p all = tt
+back q P (x ∷ items) item e p all = back_by q P x item items (q x) e p all (λ f r. back q P items item f p r)
+
+shorter_by : (q : Item → Bool) (x item : Item) (items : List Item) (b : Bool) → cond b (Some x) (find q items) ≡ Some item → (find q items ≡ Some item → length items ≡ length (without_first q items) + 1)
+    → length items + 1 ≡ length (cond b items (x ∷ without_first q items)) + 1
+shorter_by q x item items true e rest = refl
+shorter_by q x item items false e rest = let r = rest e in omega (arith, r)
+
+pub shorter : (q : Item → Bool) (items : List Item) (item : Item) → find q items ≡ Some item → length items ≡ length (without_first q items) + 1
+shorter q [] item e = absurd_found e
+shorter q (x ∷ items) item e = let r = shorter_by q x item items (q x) e (shorter q items item) in omega (arith, r)
+
+-- a run of what follows leaves nothing that goes on
+went_by : (c : Chain) (items : List Item) (opening start : List ℕ) (taken : List Piece) (n : ℕ) (from : List Item) (between : List Link) (at : List ℕ) (s : State) (found : Option Item)
+    → AreDistinct c.root c.links → AllByRecursion (Good c items) from → At c items opening start taken between at s → find (nexts c at) from ≡ found → length from ≤ suc n
+    → ((f : List Item) (b : List Link) (p : List ℕ) (t : State) → AllByRecursion (Good c items) f → length f ≤ n → At c items opening start taken b p t
+    → Went c items opening start taken f b (run t (map piece_of (follow_within n (c.channel ∷ []) (λ i. closes i.stream) p f))))
+    → Went c items opening start taken from between
+    (run s (map piece_of (going_on (λ i. closes i.stream) at (λ (next : List ℕ). follow_within n (c.channel ∷ []) (λ i. closes i.stream) next (without_first (nexts c at) from)) found)))
+went_by c items opening start taken n from between at s None d good a e short rest = stays c items opening start taken from between at s a (λ _. none_found (nexts c at) from e)
+went_by c items opening start taken n from between at s (Some item) d good a e short rest =
+    let found = find_good (nexts c at) (Good c items) from item e good in
+    let left = without_first (nexts c at) from in
+    let few : length left ≤ n = let r = shorter (nexts c at) from item e in omega (arith, r, short) in
+    let went = stepped c items opening start taken left between at s item (λ (next : List ℕ). follow_within n (c.channel ∷ []) (λ i. closes i.stream) next left) (is_live s) (has_room s.pending (piece_of item)) (closes item.stream)
+    d found.good found.test a refl refl (λ b p t there. rest left b p t (left_good (nexts c at) (Good c items) from good) few there) in
+    record { more = went.more; at = went.at; now = went.now; none = λ n. let all = went.none n in back (nexts c at) (λ (i : Item). nexts c went.at i ≡ false) from item e all.0 all.1 }
+
+none_short : (n : ℕ) → suc n ≤ 0 → ⊥
+none_short n h = omega (arith, h)
+
+went : (c : Chain) (items : List Item) (opening start : List ℕ) (taken : List Piece) (n : ℕ) (from : List Item) (between : List Link) (at : List ℕ) (s : State)
+    → AreDistinct c.root c.links → AllByRecursion (Good c items) from → length from ≤ n → At c items opening start taken between at s
+    → Went c items opening start taken from between (run s (map piece_of (follow_within n (c.channel ∷ []) (λ i. closes i.stream) at from)))
+went c items opening start taken zero [] between at s d good short a = stays c items opening start taken [] between at s a (λ n. tt)
+went c items opening start taken zero (x ∷ from) between at s d good short a = absurd (none_short (length from) short)
+went c items opening start taken (suc n) from between at s d good short a =
+    went_by c items opening start taken n from between at s (find (nexts c at) from) d good a refl short (λ f b p t g few there. went c items opening start taken n f b p t d g few there)
+
+-- what is said of a stream that the chain covers
+pub record Stands (c : Chain) (items : List Item) (opening start : List ℕ) (taken : List Piece) (s : State) : Type 0 where
+  pub between : List Link
+  pub at : List ℕ
+  pub now : At c items opening start taken between at s
+  pub none : s.ended ≡ None → None-next c at (last_items items)
+
+abbrev pub Covered : Chain → List Item → HoldSpec → List Piece → State → Type 0
+Covered c items spec taken s = CoversSpec c spec (λ opening start. Stands c items opening start taken s)
+
+pub record Law (c : Chain) (items : List Item) (h : Held) : Type 0 where
+  pub fits : Fits h.spec h.taken h.state
+  pub law : AllByRecursion (CoversItem c) items → Covered c items h.spec h.taken h.state
+
+or_right : (a b : Bool) → b ≡ true → (a || b) ≡ true
+or_right true b e = refl
+or_right false b e = e
+
+good_all : (c : Chain) (items ys : List Item) → ((q : Item → Bool) → list_any q ys ≡ true → list_any q items ≡ true) → AllByRecursion (CoversItem c) ys → AllByRecursion (Good c items) ys
+good_all c items [] lift all = tt
+good_all c items (y ∷ ys) lift all =
+    (record { covered = all.0; there = λ q e. lift q (or_true (q y) (list_any q ys) e) }, good_all c items ys (λ q e. lift q (or_right (q y) (list_any q ys) e)) all.1)
+
+window_good : (c : Chain) (items : List Item) → AllByRecursion (CoversItem c) items → AllByRecursion (Good c items) (last_items items)
+window_good c items all = drop_all (Good c items) (length items - 4096) items (good_all c items items (λ q e. e) all)
+
+at_more : (c : Chain) (items : List Item) (opening start : List ℕ) (taken : List Piece) (between : List Link) (at : List ℕ) (s : State) (item : Item)
+    → At c items opening start taken between at s → At c (items ++ item ∷ []) opening start taken between at s
+at_more c items opening start taken between at s item a =
+    record { position_is = a.position_is; place = a.place; bytes = a.bytes; still_open = a.still_open; closes_last = a.closes_last; came = came_more c items item start between a.came }
+
+-- a hold that stays, while one more item is published
+stands_more : (c : Chain) (items : List Item) (opening start : List ℕ) (taken : List Piece) (between : List Link) (at : List ℕ) (s : State) (item : Item)
+    → At c items opening start taken between at s → (s.ended ≡ None → nexts c at item ≡ false) → (s.ended ≡ None → None-next c at (last_items items)) → Stands c (items ++ item ∷ []) opening start taken s
+stands_more c items opening start taken between at s item a not all = record {
+  between = between;
+  at = at;
+  now = at_more c items opening start taken between at s item a;
+  none = λ n. window_more (λ (i : Item). nexts c at i ≡ false) items item (not n) (all n);
+}
+
+settled_stands : (c : Chain) (items : List Item) (opening start : List ℕ) (taken : List Piece) (s : State) (window : List Item) (went_on : Bool) → Stands c items opening start taken s → Stands c items opening start taken (settled_if went_on window s)
+settled_stands c items opening start taken s window true f = record {
+  between = f.between;
+  at = f.at;
+  now = record { position_is = f.now.position_is; place = f.now.place; bytes = f.now.bytes; still_open = f.now.still_open; closes_last = f.now.closes_last; came = f.now.came };
+  none = f.none;
+}
+settled_stands c items opening start taken s window false f = f
+
+gapped_stands : (c : Chain) (items : List Item) (opening start : List ℕ) (taken : List Piece) (s : State) (item : Item) (f : Stands c items opening start taken s) (ask more : Bool)
+    → s.ended ≡ None → nexts c f.at item ≡ false
+    → Stands c (items ++ item ∷ []) opening start taken (cond ask (marked s) (record s { misses = s.misses + 1; ended = cond more (Some Gap) s.ended }))
+gapped_stands c items opening start taken s item f true more live not =
+    stands_more c items opening start taken f.between f.at (marked s) item
+    (record { position_is = f.now.position_is; place = f.now.place; bytes = f.now.bytes; still_open = f.now.still_open; closes_last = f.now.closes_last; came = f.now.came }) (λ n. not) (λ n. f.none live)
+gapped_stands c items opening start taken s item f false true live not =
+    stands_more c items opening start taken f.between f.at (record s { misses = s.misses + 1; ended = Some Gap }) item
+    (record { position_is = f.now.position_is; place = f.now.place; bytes = f.now.bytes; still_open = λ n. absurd_some n; closes_last = f.now.closes_last; came = f.now.came }) (λ n. not) (λ n. absurd_some n)
+gapped_stands c items opening start taken s item f false false live not =
+    stands_more c items opening start taken f.between f.at (record s { misses = s.misses + 1 }) item
+    (record { position_is = f.now.position_is; place = f.now.place; bytes = f.now.bytes; still_open = f.now.still_open; closes_last = f.now.closes_last; came = f.now.came }) (λ n. not) (λ n. f.none live)
+
+gap_not : {A : Type 0} (heard chained id : Bool) → (heard && (chained && false && not id)) ≡ true → A
+gap_not true true true e = absurd_true e
+gap_not true true false e = absurd_true e
+gap_not true false id e = absurd_true e
+gap_not false chained id e = absurd_true e
+
+and_false : (a b : Bool) → b ≡ false → (a && b) ≡ false
+and_false true b e = e
+and_false false b e = refl
+
+not_next : (heard chained prev id own : Bool) → (heard && (chained && not prev && not id)) ≡ true → (heard && (own && prev)) ≡ false
+not_next heard chained true id own e = gap_not heard chained id e
+not_next true chained false id true e = refl
+not_next true chained false id false e = refl
+not_next false chained false id own e = refl
+
+same_rest : (own at : List ℕ) (id : Option (List ℕ)) (close : Bool) (next : List ℕ → List Item) → id ≡ Some own
+    → map piece_of (cond close [] (next (id_or id at))) ≡ cond close [] (option_map_or (λ (i : List ℕ). map piece_of (next i)) id [])
+same_rest own at id true next e = refl
+same_rest own at id false next e = rw e refl
+
+le_self : (n : ℕ) → n ≤ n
+le_self n = omega arith
+
+-- an item that comes next, and then those of the window that follow it
+chained_stands : (c : Chain) (items : List Item) (opening start : List ℕ) (taken : List Piece) (s : State) (item : Item) (f : Stands c items opening start taken s)
+    → AreDistinct c.root c.links → AllByRecursion (CoversItem c) (items ++ item ∷ []) → s.ended ≡ None → nexts c f.at item ≡ true
+    → Stands c (items ++ item ∷ []) opening start taken
+    (run s (piece_of item ∷ cond (closes item.stream) [] (option_map_or (λ (id : List ℕ). map piece_of (follow (c.channel ∷ []) (λ (i : Item). closes i.stream) id (last_items items))) item.id [])))
+chained_stands c items opening start taken s item f d cov live next =
+    let more = items ++ item ∷ [] in
+    let w = last_items items in
+    let after : List ℕ → List Item = λ (p : List ℕ). follow (c.channel ∷ []) (λ (i : Item). closes i.stream) p w in
+    let goods = good_all c more more (λ q e. e) cov in
+    let good_w = drop_all (Good c more) (length items - 4096) items (all_front (Good c more) items item goods) in
+    let good_i = all_last (Good c more) items item goods in
+    let link = linked_of c more item f.at good_i next in
+    let went_on = stepped c more opening start taken w f.between f.at s item after (is_live s) (has_room s.pending (piece_of item)) (closes item.stream) d good_i next
+    (at_more c items opening start taken f.between f.at s item f.now) refl refl (λ b p t there. went c more opening start taken (length w) w b p t d good_w (le_self (length w)) there) in
+    let same = same_rest link.own f.at item.id (closes item.stream) after link.id_is in
+    subst (λ ps. Stands c more opening start taken (run (added s (piece_of item)) ps)) same (record {
+      between = f.between ++ went_on.more;
+      at = went_on.at;
+      now = went_on.now;
+      none = λ n. window_more (λ (i : Item). nexts c went_on.at i ≡ false) items item (went_on.none n).0 (went_on.none n).1;
+    })
+
+-- what an item on the channel brings a live hold that it leaves no gap for, by whether it comes next
+run_stands : (c : Chain) (items : List Item) (opening start : List ℕ) (taken : List Piece) (s : State) (item : Item) (f : Stands c items opening start taken s) (heard next : Bool)
+    → AreDistinct c.root c.links → AllByRecursion (CoversItem c) (items ++ item ∷ []) → s.ended ≡ None → is_heard (c.channel ∷ []) item ≡ heard → comes_after item f.at ≡ next
+    → Stands c (items ++ item ∷ []) opening start taken
+    (run s (cond heard (cond next (piece_of item ∷ cond (closes item.stream) [] (option_map_or (λ (id : List ℕ). map piece_of (follow (c.channel ∷ []) (λ (i : Item). closes i.stream) id (last_items items))) item.id [])) []) []))
+run_stands c items opening start taken s item f false next d cov live h n = stands_more c items opening start taken f.between f.at s item f.now (λ _. ap (λ b. b && comes_after item f.at) h) f.none
+run_stands c items opening start taken s item f true false d cov live h n =
+    stands_more c items opening start taken f.between f.at s item f.now (λ _. and_false (is_heard (c.channel ∷ []) item) (comes_after item f.at) n) f.none
+run_stands c items opening start taken s item f true true d cov live h n = chained_stands c items opening start taken s item f d cov live (and_both (is_heard (c.channel ∷ []) item) (comes_after item f.at) h n)
+
+-- the same by the terms and the position of the hold
+offered_by : (c : Chain) (items : List Item) (opening start : List ℕ) (link : Bool) (taken : List Piece) (s : State) (item : Item) (f : Stands c items opening start taken s) (terms : Terms) (gap : Bool)
+    → AreDistinct c.root c.links → AllByRecursion (CoversItem c) (items ++ item ∷ []) → s.ended ≡ None → terms ≡ terms_of (Stream opening c.channel start link) → shows_gap (terms_of (Stream opening c.channel start link)) (Some f.at) item ≡ gap
+    → Stands c (items ++ item ∷ []) opening start taken (cond gap (gapped s) (run s (run_for (terms_of (Stream opening c.channel start link)) (Some f.at) item (last_items items))))
+offered_by c items opening start link taken s item f terms true d cov live t g =
+    gapped_stands c items opening start taken s item f (can_ask s.terms) (nat_le 64 (s.misses + 1)) live
+    (not_next (is_heard (c.channel ∷ []) item) (is_chained item) (is_id item.prev f.at) (is_id item.id f.at) (is_some item.id) g)
+offered_by c items opening start link taken s item f terms false d cov live t g =
+    run_stands c items opening start taken s item f (is_heard (c.channel ∷ []) item) (comes_after item f.at) d cov live refl refl
+
+offered_stands : (c : Chain) (items : List Item) (opening start : List ℕ) (link : Bool) (taken : List Piece) (s : State) (item : Item)
+    → AreDistinct c.root c.links → AllByRecursion (CoversItem c) (items ++ item ∷ []) → s.ended ≡ None → s.terms ≡ terms_of (Stream opening c.channel start link) → Stands c items opening start taken s
+    → Stands c (items ++ item ∷ []) opening start taken (offered item (last_items items) s)
+offered_stands c items opening start link taken s item d cov live t f =
+    let terms = terms_of (Stream opening c.channel start link) in
+    let w = last_items items in
+    subst (λ (p : Option (List ℕ)). Stands c (items ++ item ∷ []) opening start taken (cond (shows_gap s.terms p item) (gapped s) (run s (run_for s.terms p item w)))) (sym f.now.position_is)
+    (subst (λ (k : Terms). Stands c (items ++ item ∷ []) opening start taken (cond (shows_gap k (Some f.at) item) (gapped s) (run s (run_for k (Some f.at) item w)))) (sym t)
+    (offered_by c items opening start link taken s item f s.terms (shows_gap terms (Some f.at) item) d cov live t refl))
+
+served_stands : (c : Chain) (items : List Item) (opening start : List ℕ) (link : Bool) (taken : List Piece) (s : State) (item : Item) (live : Bool)
+    → AreDistinct c.root c.links → AllByRecursion (CoversItem c) (items ++ item ∷ []) → is_live s ≡ live → s.terms ≡ terms_of (Stream opening c.channel start link) → Stands c items opening start taken s
+    → Stands c (items ++ item ∷ []) opening start taken (cond live (let next = offered item (last_items items) s in settled_if (grew s next) (last_items (items ++ item ∷ [])) next) s)
+served_stands c items opening start link taken s item false d cov l t f =
+    stands_more c items opening start taken f.between f.at s item f.now (λ n. dead_by s.ended l n) f.none
+served_stands c items opening start link taken s item true d cov l t f =
+    settled_stands c (items ++ item ∷ []) opening start taken (offered item (last_items items) s) (last_items (items ++ item ∷ [])) (grew s (offered item (last_items items) s))
+    (offered_stands c items opening start link taken s item d cov (live_by s.ended l) t f)
+
+served_law : (c : Chain) (items : List Item) (spec : HoldSpec) (taken : List Piece) (s : State) (item : Item) → AreDistinct c.root c.links → s.terms ≡ terms_of spec
+    → (AllByRecursion (CoversItem c) items → Covered c items spec taken s) → AllByRecursion (CoversItem c) (items ++ item ∷ [])
+    → Covered c (items ++ item ∷ []) spec taken (served item (last_items items) (last_items (items ++ item ∷ [])) s)
+served_law c items (Stream opening channel prev link) taken s item d t f cov = λ same at.
+    served_stands c items opening prev link taken s item (is_live s) d cov refl (t ∙ ap (λ (ch : List ℕ). terms_of (Stream opening ch prev link)) same) (f (all_front (CoversItem c) items item cov) same at)
+served_law c items (Plain opening channels) taken s item d t f cov = tt
+served_law c items (Response channels prev deadline again) taken s item d t f cov = tt
+served_law c items Socket taken s item d t f cov = tt
+
+-- a fresh stream has its opening, and what follows its first position
+fresh_at : (c : Chain) (items : List Item) (opening prev : List ℕ) (link : Bool) → IsIn c prev → At c items opening prev [] [] prev (opened (Stream opening c.channel prev link))
+fresh_at c items opening prev link at = record {
+  position_is = refl;
   place = record { before = at.before; rest = at.rest; whole = at.whole; from_is = at.at; to_is = refl };
   bytes = refl;
   still_open = λ n. tt;
   closes_last = no_snoc;
+  came = tt;
 }
-begun_by c (Plain opening channels) = tt
-begun_by c (Response channels prev deadline again) = tt
-begun_by c Socket = tt
 
--- a Take leaves the log as it is
-pub take_log : (h : Held) → log (after_take h) ≡ log h
-take_log h = append_assoc h.taken (batch h.pending) (left h.pending) ∙ ap (λ ps. h.taken ++ ps) (take-append-drop (batch_count h.pending) h.pending)
+fresh_stands : (c : Chain) (items : List Item) (opening prev : List ℕ) (link : Bool) → AreDistinct c.root c.links → AllByRecursion (CoversItem c) items → IsIn c prev
+    → Stands c items opening prev [] (begun_state (Stream opening c.channel prev link) (last_items items))
+fresh_stands c items opening prev link d cov at =
+    let w = last_items items in
+    let g = went c items opening prev [] (length w) w [] prev (opened (Stream opening c.channel prev link)) d (window_good c items cov) (le_self (length w)) (fresh_at c items opening prev link at) in
+    record {
+      between = g.more;
+      at = g.at;
+      now = record { position_is = g.now.position_is; place = g.now.place; bytes = g.now.bytes; still_open = g.now.still_open; closes_last = g.now.closes_last; came = g.now.came };
+      none = g.none;
+    }
 
-take_follows : (c : Chain) (h : Held) → Follows c h → Follows c (after_take h)
-take_follows c h f = subst (λ ps. FollowsBy c h.spec ps h.ended) (sym (take_log h)) f
+fresh_law : (c : Chain) (items : List Item) (spec : HoldSpec) → AreDistinct c.root c.links → AllByRecursion (CoversItem c) items → Covered c items spec [] (begun_state spec (last_items items))
+fresh_law c items (Stream opening channel prev link) d cov = λ same at.
+    subst (λ (ch : List ℕ). Stands c items opening prev [] (begun_state (Stream opening ch prev link) (last_items items))) (sym same) (fresh_stands c items opening prev link d cov at)
+fresh_law c items (Plain opening channels) d cov = tt
+fresh_law c items (Response channels prev deadline again) d cov = tt
+fresh_law c items Socket d cov = tt
 
-detach_by : (c : Chain) (spec : HoldSpec) (pieces : List Piece) (ended : Option EndCause) (cause : EndCause) → FollowsBy c spec pieces ended → FollowsBy c spec pieces (Some cause)
-detach_by c (Stream opening channel prev link) pieces ended cause f = λ same at. ended_follows c opening prev pieces ended cause (f same at)
-detach_by c (Plain opening channels) pieces ended cause f = tt
-detach_by c (Response channels prev deadline again) pieces ended cause f = tt
-detach_by c Socket pieces ended cause f = tt
+-- a Take leaves the log, the position and the end of a stream
+rest_stands : (c : Chain) (items : List Item) (opening start : List ℕ) (taken : List Piece) (s : State) → Stands c items opening start taken s → Stands c items opening start (taken ++ batch s.pending) (rest_of s)
+rest_stands c items opening start taken s f = record {
+  between = f.between;
+  at = f.at;
+  now = record { position_is = f.now.position_is; place = f.now.place; bytes = ap text (taken_again taken s.pending) ∙ f.now.bytes; still_open = f.now.still_open; closes_last = f.now.closes_last; came = f.now.came };
+  none = f.none;
+}
 
-detach_follows : (c : Chain) (h : Held) → Follows c h → Follows c (after_detach h)
-detach_follows c h f = detach_by c h.spec (log h) h.ended (end_or_detached h.ended) f
+take_law : (c : Chain) (items : List Item) (spec : HoldSpec) (taken : List Piece) (now : ℕ) (s : State) → s.terms ≡ terms_of spec → Covered c items spec taken s
+    → let t = timed now s.terms.deadline s in Covered c items spec (taken ++ batch t.pending) (rest_of t)
+take_law c items (Stream opening channel prev link) taken now s t f = λ same at.
+    subst (λ (deadline : Option ℕ). let u = timed now deadline s in Stands c items opening prev (taken ++ batch u.pending) (rest_of u)) (sym (ap (λ (k : Terms). k.deadline) t))
+    (rest_stands c items opening prev taken s (f same at))
+take_law c items (Plain opening channels) taken now s t f = tt
+take_law c items (Response channels prev deadline again) taken now s t f = tt
+take_law c items Socket taken now s t f = tt
 
-changed_one : (c : Chain) (change : Held → Held) (h : Held) (kept own : Bool) → ((k : Held) → Follows c k → Follows c (change k)) → Follows c h → Follows c (cond kept (cond own (change h) h) h)
-changed_one c change h true true keeps f = keeps h f
-changed_one c change h true false keeps f = f
-changed_one c change h false own keeps f = f
+go_law : (c : Chain) (items : List Item) (spec : HoldSpec) (taken : List Piece) (s : State) (cause : EndCause) → Covered c items spec taken s → Covered c items spec taken (record s { ended = Some cause })
+go_law c items (Stream opening channel prev link) taken s cause f = λ same at.
+    let g = f same at in
+    record { between = g.between; at = g.at; now = ended_at c items opening prev taken g.between g.at s cause g.now; none = λ n. absurd_some n }
+go_law c items (Plain opening channels) taken s cause f = tt
+go_law c items (Response channels prev deadline again) taken s cause f = tt
+go_law c items Socket taken s cause f = tt
 
-changed_all : (c : Chain) (who number : ℕ) (change : Held → Held) (hs : List Held) → ((k : Held) → Follows c k → Follows c (change k))
-    → AllByRecursion (Follows c) hs → AllByRecursion (Follows c) (changed who number change hs)
-changed_all c who number change [] keeps all = tt
-changed_all c who zero change (h ∷ hs) keeps all = (changed_one c change h (not h.released) (h.owner == who) keeps all.0, all.1)
-changed_all c who (suc number) change (h ∷ hs) keeps all = (all.0, changed_all c who number change hs keeps all.1)
+law_kept : (c : Chain) → AreDistinct c.root c.links → IsKept (Law c)
+law_kept c d = record {
+  fresh = λ items who spec. record { fits = sound.fresh items who spec; law = λ cov. fresh_law c items spec d cov };
+  serve = λ items item h f. record { fits = sound.serve items item h f.fits; law = λ cov. served_law c items h.spec h.taken h.state item d f.fits.terms_are f.law cov };
+  take = λ items now h f. record { fits = sound.take items now h f.fits; law = λ cov. take_law c items h.spec h.taken now h.state f.fits.terms_are (f.law cov) };
+  go = λ items h f. record { fits = sound.go items h f.fits; law = λ cov. go_law c items h.spec h.taken h.state (end_or_detached h.state.ended) (f.law cov) };
+}
 
-all_append : (c : Chain) (xs ys : List Held) → AllByRecursion (Follows c) xs → AllByRecursion (Follows c) ys → AllByRecursion (Follows c) (xs ++ ys)
-all_append c [] ys p q = q
-all_append c (x ∷ xs) ys p q = (p.0, all_append c xs ys p.1 q)
+all_by : (P Q : Held → Type 0) (hs : List Held) → ((h : Held) → P h → Q h) → AllByRecursion P hs → AllByRecursion Q hs
+all_by P Q [] f all = tt
+all_by P Q (h ∷ hs) f all = (f h all.0, all_by P Q hs f all.1)
 
-attached_all : (c : Chain) (xs : List Held) (h : Held) (place : Bool) → AllByRecursion (Follows c) xs → Follows c h
-    → AllByRecursion (Follows c) (cond place (xs ++ h ∷ []) xs)
-attached_all c xs h true p f = all_append c xs (h ∷ []) p (f, tt)
-attached_all c xs h false p f = p
+follows_by : (c : Chain) (items : List Item) (spec : HoldSpec) (taken : List Piece) (s : State) → Covered c items spec taken s
+    → CoversSpec c spec (λ opening start. FollowsLog c opening start (taken ++ s.pending) s.position s.ended)
+follows_by c items (Stream opening channel prev link) taken s f = λ same at.
+    let g = f same at in
+    record { between = g.between; at = g.at; position_is = g.now.position_is; place = g.now.place; bytes = g.now.bytes; still_open = g.now.still_open; closes_last = g.now.closes_last }
+follows_by c items (Plain opening channels) taken s f = tt
+follows_by c items (Response channels prev deadline again) taken s f = tt
+follows_by c items Socket taken s f = tt
 
-after_all : (c : Chain) (hs : List Held) (who : ℕ) (event : Event) → AreDistinct c.root c.links → CoversEvent c event
-    → AllByRecursion (Follows c) hs → AllByRecursion (Follows c) (after_event hs who event)
-after_all c hs who (Attach spec) d cov all = attached_all c hs (begun who spec) (has_place hs) all (begun_by c spec)
-after_all c hs who (Publish item) d cov all = served_all c item hs d cov all
-after_all c hs who (Take hold now) d cov all = changed_all c who hold after_take hs (take_follows c) all
-after_all c hs who (Detach hold) d cov all = changed_all c who hold after_detach hs (detach_follows c) all
-after_all c hs who (Page hold from to bytes then) d cov all = all
-after_all c hs who (PageFailed hold) d cov all = all
-after_all c hs who (Push hold message) d cov all = all
-after_all c hs who (Join hold channel) d cov all = all
-after_all c hs who (Leave hold channel) d cov all = all
-
-held_all : (c : Chain) (hs : List Held) (entries : List Entry) → AreDistinct c.root c.links → CoversHistory c entries
-    → AllByRecursion (Follows c) hs → AllByRecursion (Follows c) (fold after hs entries)
-held_all c hs [] d cov all = all
-held_all c hs (e ∷ es) d cov all = held_all c (after hs e) es d cov.1 (after_all c hs e.who e.event d cov.0 all)
+pub laws : (c : Chain) (entries : List Entry) → AreDistinct c.root c.links → AllByRecursion (Law c (published entries)) (held entries)
+laws c entries d = in_each_history (Law c) entries (law_kept c d)
 
 pub chain_law_holds : (c : Chain) (entries : List Entry) → AreDistinct c.root c.links → CoversHistory c entries → All (Follows c) (held entries)
-chain_law_holds c entries d cov = All-from_recursion (Follows c) (held entries) (held_all c [] entries d cov tt)
+chain_law_holds c entries d cov =
+    All-from_recursion (Follows c) (held entries)
+    (all_by (Law c (published entries)) (Follows c) (held entries) (λ h f. follows_by c (published entries) h.spec h.taken h.state (f.law (recursion_from_All (CoversItem c) (published entries) cov))) (laws c entries d))
+
+all_items : (P Q : Item → Type 0) (xs : List Item) → ((x : Item) → P x → Q x) → AllByRecursion P xs → AllByRecursion Q xs
+all_items P Q [] f all = tt
+all_items P Q (x ∷ xs) f all = (f x all.0, all_items P Q xs f all.1)
+
+pub none_any : (q : Item → Bool) (xs : List Item) → AllByRecursion (λ (x : Item). q x ≡ false) xs → list_any q xs ≡ false
+none_any q xs all = list_any_none q xs (All-from_recursion (λ (x : Item). q x ≡ false) xs all)
+
+has_all_by : (c : Chain) (entries : List Entry) (spec : HoldSpec) (taken : List Piece) (s : State) → s.terms ≡ terms_of spec → Covered c (published entries) spec taken s
+    → CoversSpec c spec (λ opening start. s.ended ≡ None → list_any (λ (item : Item). is_heard (terms_of spec).channels item && comes_next item s.position) (window entries) ≡ false)
+has_all_by c entries (Stream opening channel prev link) taken s t f = λ same at n.
+    let g = f same at in
+    subst (λ (p : Option (List ℕ)). list_any (λ (item : Item). is_heard (channel ∷ []) item && comes_next item p) (window entries) ≡ false) (sym g.now.position_is)
+    (subst (λ (ch : List ℕ). list_any (λ (item : Item). is_heard (ch ∷ []) item && comes_after item g.at) (window entries) ≡ false) (sym same) (none_any (nexts c g.at) (window entries) (g.none n)))
+has_all_by c entries (Plain opening channels) taken s t f = tt
+has_all_by c entries (Response channels prev deadline again) taken s t f = tt
+has_all_by c entries Socket taken s t f = tt
+
+pub window_law_holds : (c : Chain) (entries : List Entry) → AreDistinct c.root c.links → CoversHistory c entries → All (HasAll c (window entries)) (held entries)
+window_law_holds c entries d cov =
+    All-from_recursion (HasAll c (window entries)) (held entries)
+    (all_by (Law c (published entries)) (HasAll c (window entries)) (held entries)
+    (λ h f. has_all_by c entries h.spec h.taken h.state f.fits.terms_are (f.law (recursion_from_All (CoversItem c) (published entries) cov))) (laws c entries d))

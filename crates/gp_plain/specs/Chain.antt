@@ -1,9 +1,11 @@
 -- Chains of items, and what they say of a log.
-use Rattle.std.specs.Prelude.{ℕ, ◌≡◌, ◌≢◌, false, List, [], ◌∷◌, ◌++◌, Option, Some, None, All}
+use Rattle.std.specs.Prelude.{ℕ, ◌≡◌, ◌≢◌, ◌&&◌, false, List, [], ◌∷◌, ◌++◌, Option, Some, None, All}
+use Rattle.std.specs.List.{list_any}
 use Rattle.gp_plain.specs.Items.{content_of, closes}
-use Rattle.gp_plain.specs.Pieces.{text, position_after}
-use Rattle.gp_plain.specs.Holds.{Held, log}
-use Rattle.gp_plain.specs.History.{held}
+use Rattle.gp_plain.specs.Pieces.{text}
+use Rattle.gp_plain.specs.Follow.{is_heard}
+use Rattle.gp_plain.specs.Holds.{Held, log, position, ended, terms_of, comes_next}
+use Rattle.gp_plain.specs.History.{held, published, window}
 use Rattle.gp_plain.specs.declared.item.Item.{Item}
 use Rattle.gp_plain.specs.declared.item.StreamPart.{StreamPart}
 use Rattle.gp_plain.specs.declared.event.Entry.{Entry}
@@ -75,21 +77,9 @@ CoversIds chain None prev stream = Unit {0}
 abbrev pub CoversItem : Chain → Item → Type 0
 CoversItem chain item = item.channel ≡ chain.channel → CoversIds chain item.id item.prev item.stream
 
-abbrev pub CoversEvent : Chain → Event → Type 0
-CoversEvent chain (Publish item) = CoversItem chain item
-CoversEvent chain (Attach spec) = Unit {0}
-CoversEvent chain (Take hold now) = Unit {0}
-CoversEvent chain (Page hold from to bytes then) = Unit {0}
-CoversEvent chain (PageFailed hold) = Unit {0}
-CoversEvent chain (Push hold message) = Unit {0}
-CoversEvent chain (Join hold channel) = Unit {0}
-CoversEvent chain (Leave hold channel) = Unit {0}
-CoversEvent chain (Detach hold) = Unit {0}
-
--- every chained item that was published on the chain's channel stands in the chain
+-- every chained item that was published on the chain's channel, and wasn't a repeat, stands in the chain
 abbrev pub CoversHistory : Chain → List Entry → Type 0
-CoversHistory chain [] = Unit {0}
-CoversHistory chain (entry ∷ entries) = CoversEvent chain entry.event × CoversHistory chain entries
+CoversHistory chain entries = All (CoversItem chain) (published entries)
 
 abbrev pub NoneCloses : List Link → Type 0
 NoneCloses [] = Unit {0}
@@ -97,23 +87,33 @@ NoneCloses (l ∷ links) = (closes l.stream ≡ false) × NoneCloses links
 
 -- a log has the opening, and then the contents of the chain's items after the first position, in order, each once
 -- and none skipped, up to its position. A close stands among them only as the last, and the hold has then ended
-pub record FollowsLog (chain : Chain) (opening start : List ℕ) (pieces : List Piece) (ended : Option EndCause) : Type 0 where
+pub record FollowsLog (chain : Chain) (opening start : List ℕ) (pieces : List Piece) (position : Option (List ℕ)) (ended : Option EndCause) : Type 0 where
   pub between : List Link
-  pub place : IsBetween chain start (position_after start pieces) between
+  pub at : List ℕ
+  pub position_is : position ≡ Some at
+  pub place : IsBetween chain start at between
   pub bytes : text pieces ≡ opening ++ bytes_of between
   pub still_open : ended ≡ None → NoneCloses between
   pub closes_last : (front : List Link) (l : Link) → between ≡ front ++ l ∷ [] → NoneCloses front
 
 -- a chain covers a reliable stream hold where it is on the hold's channel and has its first position
-abbrev pub FollowsBy : Chain → HoldSpec → List Piece → Option EndCause → Type 0
-FollowsBy chain (Stream opening channel prev link) pieces ended = channel ≡ chain.channel → IsIn chain prev → FollowsLog chain opening prev pieces ended
-FollowsBy chain (Plain opening channels) pieces ended = Unit {0}
-FollowsBy chain (Response channels prev deadline again) pieces ended = Unit {0}
-FollowsBy chain Socket pieces ended = Unit {0}
+abbrev pub CoversSpec : Chain → HoldSpec → (List ℕ → List ℕ → Type 0) → Type 0
+CoversSpec chain (Stream opening channel prev link) then = channel ≡ chain.channel → IsIn chain prev → then opening prev
+CoversSpec chain (Plain opening channels) then = Unit {0}
+CoversSpec chain (Response channels prev deadline again) then = Unit {0}
+CoversSpec chain Socket then = Unit {0}
 
 abbrev pub Follows : Chain → Held → Type 0
-Follows chain h = FollowsBy chain h.spec (log h) h.ended
+Follows chain h = CoversSpec chain h.spec (λ opening start. FollowsLog chain opening start (log h) (position h) (ended h))
 
 -- the chain law: in every history, each reliable stream hold follows each chain that covers it
 abbrev pub ChainLaw : Type 0
 ChainLaw = (chain : Chain) (entries : List Entry) → AreDistinct chain.root chain.links → CoversHistory chain entries → All (Follows chain) (held entries)
+
+-- nothing of the window goes on from the position of a live hold
+abbrev pub HasAll : Chain → List Item → Held → Type 0
+HasAll chain window h = CoversSpec chain h.spec (λ opening start. ended h ≡ None → list_any (λ (item : Item). is_heard (terms_of h.spec).channels item && comes_next item (position h)) window ≡ false)
+
+-- the law of the window: no chained item of it has the position of a live hold that a chain covers as its previous id
+abbrev pub WindowLaw : Type 0
+WindowLaw = (chain : Chain) (entries : List Entry) → AreDistinct chain.root chain.links → CoversHistory chain entries → All (HasAll chain (window entries)) (held entries)

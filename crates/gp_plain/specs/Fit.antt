@@ -81,21 +81,17 @@ is_within (Join hold channel) = true
 is_within (Leave hold channel) = true
 is_within (Detach hold) = true
 
--- a reliable stream with a link
+-- a hold that isn't a socket
 abbrev pub is_built_spec : HoldSpec → Bool
-is_built_spec (Stream opening channel prev link) = link
-is_built_spec (Plain opening channels) = false
-is_built_spec (Response channels prev deadline again) = false
+is_built_spec (Stream opening channel prev link) = true
+is_built_spec (Plain opening channels) = true
+is_built_spec (Response channels prev deadline again) = true
 is_built_spec Socket = false
-
--- an item with a stream part alone
-abbrev pub is_built_item : Item → Bool
-is_built_item item = is_none item.response && is_some item.stream && is_none item.message
 
 -- the kinds that are built
 abbrev pub is_built : Event → Bool
 is_built (Attach spec) = is_built_spec spec
-is_built (Publish item) = is_built_item item
+is_built (Publish item) = true
 is_built (Take hold now) = true
 is_built (Page hold from to bytes then) = false
 is_built (PageFailed hold) = false

@@ -1,14 +1,23 @@
--- What a history, oldest entry first, says of its holds and of the next reply.
+-- What a history, oldest entry first, says of its items, of its holds and of the next reply.
 use Rattle.std.specs.Prelude.{ℕ, zero, suc, Bool, cond, not, nat_lt, ◌==◌, List, [], ◌∷◌, ◌++◌, length, map, count_by, fold, slice_get, Option, Some, None}
 use Rattle.std.specs.Option.{option_map_or}
-use Rattle.gp_plain.specs.Holds.{Held, position, begun, served, grew, taken_of, after_take, after_detach}
+use Rattle.gp_plain.specs.Pieces.{id_or}
+use Rattle.gp_plain.specs.Follow.{last_items, is_repeat}
+use Rattle.gp_plain.specs.Holds.{Held, begun, pending, position, ended, served, grew, taken_of, taken_from, let_go}
+use Rattle.gp_plain.specs.declared.item.Item.{Item}
 use Rattle.gp_plain.specs.declared.event.Entry.{Entry}
 use Rattle.gp_plain.specs.declared.event.Event.{Event}
 use Rattle.gp_plain.specs.declared.event.Event.TheVariants.{Attach, Publish, Take, Page, PageFailed, Push, Join, Leave, Detach}
 use Rattle.gp_plain.specs.declared.reply.Piece.{Piece}
 use Rattle.gp_plain.specs.declared.reply.EndCause.{EndCause}
 use Rattle.gp_plain.specs.declared.reply.Reply.{Reply}
-use Rattle.gp_plain.specs.declared.reply.Reply.TheVariants.{Attached, Full, Published, Taken, Done, Foreign, Unknown}
+use Rattle.gp_plain.specs.declared.reply.Reply.TheVariants.{Attached, Full, Published, Repeat, Taken, Done, Foreign, Unknown}
+
+-- what a history leaves: the items that were published and weren't repeats, oldest first, and the holds ever attached,
+-- whose numbers are their places
+pub record Past : Type 0 where
+  pub published : List Item
+  pub holds : List Held
 
 -- so many holds are kept
 abbrev pub kept_count : List Held → ℕ
@@ -28,19 +37,15 @@ kept_at holds number = if_kept (slice_get holds number)
 
 -- what waits for the kept hold of a number; nothing where none is kept
 abbrev pub pending_at : List Held → ℕ → List Piece
-pending_at holds number = option_map_or (λ (h : Held). h.pending) (kept_at holds number) []
-
-abbrev pub position_if : Option Held → Option (List ℕ)
-position_if None = None
-position_if (Some h) = position h
+pending_at holds number = option_map_or pending (kept_at holds number) []
 
 -- the position of the kept hold of a number
 abbrev pub position_at : List Held → ℕ → Option (List ℕ)
-position_at holds number = position_if (kept_at holds number)
+position_at holds number = option_map_or position (kept_at holds number) None
 
 -- the end of the kept hold of a number
 abbrev pub cause_at : List Held → ℕ → Option EndCause
-cause_at holds number = option_map_or (λ (h : Held). h.ended) (kept_at holds number) None
+cause_at holds number = option_map_or ended (kept_at holds number) None
 
 -- an event on the hold of a number is refused where none is kept, and then where another owns it
 abbrev pub refused_or : ℕ → ℕ → Option Held → (Held → Reply) → Reply
@@ -56,37 +61,70 @@ changed who number change [] = []
 changed who zero change (h ∷ holds) = changed_if who change h ∷ holds
 changed who (suc number) change (h ∷ holds) = h ∷ changed who number change holds
 
--- what an event does to the holds ever attached, whose numbers are their places
-abbrev pub after_event : List Held → ℕ → Event → List Held
-after_event holds who (Attach spec) = cond (has_place holds) (holds ++ begun who spec ∷ []) holds
-after_event holds who (Publish item) = map (served item) holds
-after_event holds who (Take hold now) = changed who hold after_take holds
-after_event holds who (Detach hold) = changed who hold after_detach holds
-after_event holds who (Page hold from to bytes then) = holds
-after_event holds who (PageFailed hold) = holds
-after_event holds who (Push hold message) = holds
-after_event holds who (Join hold channel) = holds
-after_event holds who (Leave hold channel) = holds
+-- an item that isn't a repeat is published: each hold is served, with the windows before and after it
+abbrev pub served_by : Item → List Item → List Item → Held → Held
+served_by item before after h = record h { state = served item before after h.state }
 
-abbrev pub after : List Held → Entry → List Held
-after holds entry = after_event holds entry.who entry.event
+abbrev pub with_item : Past → Item → Past
+with_item past item =
+    let published = past.published ++ item ∷ [] in
+    record { published = published; holds = map (served_by item (last_items past.published) (last_items published)) past.holds }
+
+abbrev pub with_hold : Past → Held → Past
+with_hold past hold = record past { holds = past.holds ++ hold ∷ [] }
+
+abbrev pub with_holds : Past → List Held → Past
+with_holds past holds = record past { holds = holds }
+
+-- what an event does
+abbrev pub after_event : Past → ℕ → Event → Past
+after_event past who (Attach spec) = cond (has_place past.holds) (with_hold past (begun who spec (last_items past.published))) past
+after_event past who (Publish item) = cond (is_repeat (last_items past.published) item) past (with_item past item)
+after_event past who (Take hold now) = with_holds past (changed who hold (taken_from now) past.holds)
+after_event past who (Detach hold) = with_holds past (changed who hold let_go past.holds)
+after_event past who (Page hold from to bytes then) = past
+after_event past who (PageFailed hold) = past
+after_event past who (Push hold message) = past
+after_event past who (Join hold channel) = past
+after_event past who (Leave hold channel) = past
+
+abbrev pub after : Past → Entry → Past
+after past entry = after_event past entry.who entry.event
+
+abbrev pub nothing : Past
+nothing = record { published = []; holds = [] }
+
+abbrev pub past_of : List Entry → Past
+past_of entries = fold after nothing entries
 
 -- the holds that a history attached, in order
 abbrev pub held : List Entry → List Held
-held entries = fold after [] entries
+held entries = (past_of entries).holds
 
--- the answer to an event after the holds; an event of a kind that isn't built is in no history
-abbrev pub answer : List Held → ℕ → Event → Reply
-answer holds who (Attach spec) = cond (has_place holds) (Attached (length holds)) (Full 4096)
-answer holds who (Publish item) = Published (count_by (λ (h : Held). grew h (served item h)) holds)
-answer holds who (Take hold now) = refused_or who hold (kept_at holds hold) (λ (h : Held). Taken (taken_of h))
-answer holds who (Detach hold) = refused_or who hold (kept_at holds hold) (λ (h : Held). Done)
-answer holds who (Page hold from to bytes then) = Done
-answer holds who (PageFailed hold) = Done
-answer holds who (Push hold message) = Done
-answer holds who (Join hold channel) = Done
-answer holds who (Leave hold channel) = Done
+-- the items that a history published and that weren't repeats, oldest first
+abbrev pub published : List Entry → List Item
+published entries = (past_of entries).published
+
+-- the last of them: those that may still follow, and that repeats are told by
+abbrev pub window : List Entry → List Item
+window entries = last_items (published entries)
+
+-- how many logs an item makes grow
+abbrev pub grown_count : Past → Item → ℕ
+grown_count past item = count_by (λ (h : Held). grew h.state (served_by item (last_items past.published) (last_items (past.published ++ item ∷ [])) h).state) past.holds
+
+-- the answer to an event; an event of a kind that isn't built is in no history
+abbrev pub answer : Past → ℕ → Event → Reply
+answer past who (Attach spec) = cond (has_place past.holds) (Attached (length past.holds)) (Full 4096)
+answer past who (Publish item) = cond (is_repeat (last_items past.published) item) (Repeat (id_or item.id [])) (Published (grown_count past item))
+answer past who (Take hold now) = refused_or who hold (kept_at past.holds hold) (λ (h : Held). Taken (taken_of now h.state))
+answer past who (Detach hold) = refused_or who hold (kept_at past.holds hold) (λ (h : Held). Done)
+answer past who (Page hold from to bytes then) = Done
+answer past who (PageFailed hold) = Done
+answer past who (Push hold message) = Done
+answer past who (Join hold channel) = Done
+answer past who (Leave hold channel) = Done
 
 -- the reply to an event after a history
 abbrev pub reply : List Entry → ℕ → Event → Reply
-reply entries who event = answer (held entries) who event
+reply entries who event = answer (past_of entries) who event

@@ -2,6 +2,7 @@
 use Rattle.std.specs.Prelude.{ℕ, Bool, true, false, ◌&&◌, List, [], Option, Some, None, is_some}
 use Rattle.gp_plain.specs.Names.{same_id}
 use Rattle.gp_plain.specs.declared.item.Item.{Item}
+use Rattle.gp_plain.specs.declared.item.ResponsePart.{ResponsePart}
 use Rattle.gp_plain.specs.declared.item.StreamPart.{StreamPart}
 use Rattle.gp_plain.specs.declared.item.StreamPart.TheVariants.{Content, Close}
 
@@ -13,6 +14,11 @@ is_chained item = is_some item.id && is_some item.prev
 abbrev pub is_id : Option (List ℕ) → List ℕ → Bool
 is_id None id = false
 is_id (Some own) id = same_id own id
+
+-- two ids are there, and they are one
+abbrev pub is_same : Option (List ℕ) → Option (List ℕ) → Bool
+is_same own None = false
+is_same own (Some id) = is_id own id
 
 -- a chained item whose previous id is this one
 abbrev pub comes_after : Item → List ℕ → Bool

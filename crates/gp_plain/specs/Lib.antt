@@ -4,7 +4,11 @@ pub mod Items
 pub mod Tails
 pub mod Fit
 pub mod Pieces
+pub mod Follow
 pub mod Holds
+pub mod Growth
+pub mod Plans
 pub mod History
 pub mod Standing
 pub mod Chain
+pub mod Order

@@ -1,7 +1,7 @@
 ghost use Rattle.std.specs.Prelude.{◌≡◌, ℕ, List};
 ghost use Rattle.std.specs.List.{list_any};
 ghost use Rattle.gp_plain.specs.Names.{same_id};
-ghost use Rattle.gp_plain.specs.Fit.{are_different, fits, fits_channels, fits_close, fits_item, fits_message, fits_message_part, fits_response, fits_spec, fits_stream, is_built, is_built_item, is_built_spec, is_within};
+ghost use Rattle.gp_plain.specs.Fit.{are_different, fits, fits_channels, fits_close, fits_item, fits_message, fits_message_part, fits_response, fits_spec, fits_stream, is_built, is_built_spec, is_within};
 
 use crate::body::Body;
 use crate::event::{Event, HoldSpec};
@@ -102,12 +102,6 @@ impl Item {
             && fits_stream(&self.stream)
             && fits_message_part(&self.message)
     }
-
-    fn is_built(&self) -> bool
-        ensures { result ≡ is_built_item self.now }
-    {
-        self.response.is_none() && self.stream.is_some() && self.message.is_none()
-    }
 }
 
 impl HoldSpec {
@@ -130,10 +124,8 @@ impl HoldSpec {
         ensures { result ≡ is_built_spec self.now }
     {
         match self {
-            HoldSpec::Stream { link, .. } => *link,
-            HoldSpec::Plain { .. } => false,
-            HoldSpec::Response { .. } => false,
             HoldSpec::Socket => false,
+            _ => true,
         }
     }
 }
@@ -160,7 +152,7 @@ impl Event {
     {
         match self {
             Event::Attach { spec } => spec.is_built(),
-            Event::Publish { item } => item.is_built(),
+            Event::Publish { .. } => true,
             Event::Take { .. } => true,
             Event::Page { .. } => false,
             Event::PageFailed { .. } => false,

@@ -1,5 +1,6 @@
 //! The laws of the definitions, each the contract of a call.
-ghost use Rattle.gp_plain.specs.Chain.{ChainLaw};
+ghost use Rattle.gp_plain.specs.Chain.{ChainLaw, WindowLaw};
+ghost use Rattle.gp_plain.specs.Order.{OrderLaw};
 
 /// The chain law. In every history, whatever the order of its entries: for every chain that covers a reliable
 /// stream hold, the text of the hold's log is its opening and then the contents of the chain's items between the
@@ -7,4 +8,18 @@ ghost use Rattle.gp_plain.specs.Chain.{ChainLaw};
 /// last, and the hold has then ended.
 pub fn chain_law()
     ensures { ChainLaw }
+{}
+
+/// The law of the window. In every history, no chained item of the last 4,096 published ones has the position of a
+/// live stream hold, which a chain covers, as its previous id: nothing that could be sent is left.
+pub fn window_law()
+    ensures { WindowLaw }
+{}
+
+/// The law of order. Two histories that begin with the same attaches, and that then publish the same items in any
+/// order, fewer than 4,096 and no two of a channel with one id, leave each reliable stream hold of those attaches,
+/// which one chain covers in both and which ended in neither, with the same text and the same position. Takes and
+/// other attaches may stand anywhere behind the first.
+pub fn order_law()
+    ensures { OrderLaw }
 {}

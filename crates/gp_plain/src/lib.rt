@@ -8,6 +8,7 @@ mod body;
 mod copy;
 mod event;
 mod fit;
+mod follow;
 mod http;
 mod item;
 mod law;
@@ -15,22 +16,27 @@ mod list;
 mod name;
 mod offer;
 mod pending;
+mod plan;
 mod queue;
 mod reply;
 mod roomed;
+mod run;
 mod tail;
 
 pub use body::Body;
+pub use copy::copy_names;
 pub use event::{Entry, Event, HoldKind, HoldSpec, Then};
 pub use http::{Address, Request, Response, Signer};
 pub use item::{Field, Fields, Item, Items, Message, MessagePart, Names, ResponsePart, StreamPart};
-pub use law::chain_law;
+pub use law::{chain_law, order_law, window_law};
 pub use list::List;
 pub use name::{ItemId, Name, NameFault, copy_id};
 pub use pending::Pending;
+pub use plan::Plan;
 pub use queue::Queue;
 pub use reply::{EndCause, HoldReport, HoldReports, Piece, Pieces, Reply, Taken};
 pub use roomed::Roomed;
+pub use run::Run;
 pub use tail::{Places, Tail};
 
 #[cfg(test)]

@@ -1,11 +1,13 @@
 //! What an item says to a stream at a position.
 ghost use Rattle.std.specs.Prelude.{◌≡◌, IfOk, Some, option_map};
-ghost use Rattle.gp_plain.specs.Holds.{comes_next, leaves_gap, piece_of};
-ghost use Rattle.gp_plain.specs.Items.{closes, is_on};
+ghost use Rattle.gp_plain.specs.Follow.{is_heard};
+ghost use Rattle.gp_plain.specs.Holds.{answer_of, comes_next, ends_by, leaves_gap, piece_by, piece_of};
+ghost use Rattle.gp_plain.specs.Items.{closes, is_id, is_on};
 ghost use Rattle.gp_plain.specs.Pieces.{closed_by_message, end_by, message_bytes, moves_to, piece_bytes};
 
 use crate::body::Body;
-use crate::item::{Item, Message, StreamPart};
+use crate::event::HoldKind;
+use crate::item::{Item, Message, Names, StreamPart};
 use crate::name::{ItemId, Name, copy_id};
 use crate::reply::{EndCause, Piece};
 use std::alloc::{AllocError, Global};
@@ -16,6 +18,26 @@ impl Item {
         ensures { result ≡ is_on channel.now self.now }
     {
         self.channel.is(channel)
+    }
+
+    /// Whether it is on one of the channels.
+    pub fn is_heard(&self, channels: &Names) -> bool
+        ensures { result ≡ is_heard channels.now self.now }
+    {
+        channels
+            .as_slice()
+            .iter()
+            .any(|channel| self.is_on(channel))
+    }
+
+    /// Whether it has this id.
+    pub fn has_id(&self, id: &ItemId) -> bool
+        ensures { result ≡ is_id self.now.id id.now }
+    {
+        match &self.id {
+            Some(own) => own.is(id),
+            None => false,
+        }
     }
 
     /// Whether it has both ids, and its previous id is the position.
@@ -59,6 +81,47 @@ impl Item {
                 bytes: Body::empty(alloc),
                 close: false,
             }),
+        }
+    }
+}
+
+impl Item {
+    /// What the log of a response hold has of it: an answer, or an item without bytes.
+    pub fn answer_piece(&self, alloc: Global) -> Result<Piece, AllocError>
+        ensures { IfOk result (λ piece. piece ≡ answer_of self.now) }
+    {
+        let to = copy_id(alloc, &self.id)?;
+        match &self.response {
+            Some(part) => Ok(Piece::Answer {
+                to,
+                part: part.copy(alloc)?,
+            }),
+            None => Ok(Piece::Item {
+                to,
+                bytes: Body::empty(alloc),
+                close: false,
+            }),
+        }
+    }
+
+    /// What the log of a hold with a position has of it, by the kind of the hold.
+    pub fn piece_for(&self, alloc: Global, kind: HoldKind) -> Result<Piece, AllocError>
+        ensures { IfOk result (λ piece. piece ≡ piece_by kind self.now) }
+    {
+        match kind {
+            HoldKind::Response => self.answer_piece(alloc),
+            _ => self.stream_piece(alloc),
+        }
+    }
+
+    /// Whether it ends a hold with a position: a close ends a stream, and a response part a response hold.
+    pub fn ends(&self, kind: HoldKind) -> bool
+        ensures { result ≡ ends_by kind self.now }
+    {
+        match kind {
+            HoldKind::Stream | HoldKind::Plain => matches!(self.stream, Some(StreamPart::Close)),
+            HoldKind::Response => self.response.is_some(),
+            HoldKind::Socket => false,
         }
     }
 }

@@ -1,48 +1,49 @@
-ghost use Rattle.std.specs.Prelude.{◌≡◌, ◌+◌, ◌-◌, ◌^◌, ◌<◌, ◌≤◌, ◌==◌, ◌++◌, ◌∷◌, [], true, ℕ, List, length, take, drop, min, sum_by, IfOk, OnOk, OnErr, MatchOption};
-ghost use Rattle.gp_plain.specs.Pieces.{batch, batch_count, count_within, has_room, left, message_weight, weight};
+ghost use Rattle.std.specs.Prelude.{◌≡◌, ◌+◌, ◌-◌, ◌^◌, ◌<◌, ◌≤◌, ◌==◌, ◌++◌, [], ℕ, List, length, take, drop, min, sum_by, IfOk, OnOk, OnErr, MatchOption};
+ghost use Rattle.gp_plain.specs.Growth.{IsReady};
+ghost use Rattle.gp_plain.specs.Pieces.{batch, batch_count, count_within, left, message_weight, weight};
 ghost use Rattle.std.specs.VecDeque.{deque_capacity};
 ghost use Rattle.gp_plain.specs.Roomy.{roomy};
 
 use crate::item::Message;
 use crate::queue::Queue;
 use crate::reply::{Piece, Pieces};
+use crate::run::Run;
 use std::alloc::{AllocError, Global};
 use std::collections::VecDeque;
 use std::marker::Model;
 
 /// The bytes that may wait for one hold, at most.
-const BYTES: usize = 524288;
+pub const BYTES: usize = 524288;
 
 /// The pieces that may wait for one hold, at most.
-const PIECES: usize = 1024;
+pub const PIECES: usize = 1024;
 
 /// The bytes of one Take, at most, unless its first piece alone has more.
 const BATCH: usize = 65536;
 
 /// The pieces that wait for a hold, oldest first: at most 524,288 bytes and 1,024 pieces.
 ///
-/// It is filled in two steps, so that many holds can be filled together or not at all: `reserve` takes the
-/// memory, and `push` then takes none. Contracts see the pieces and the room.
+/// It is filled in two steps, so that many holds can be filled together or not at all: a `Run` of pieces is made with
+/// all the memory that it wants, and `append` then takes none. Contracts see the pieces and the room.
 #[derive(Drop)]
 pub struct Pending {
     alloc: Global,
     pieces: VecDeque<Piece>,
-    spare: usize,
     bytes: usize,
 }
 
 impl Model for Pending {
-    ghost use Rattle.std.specs.Prelude.{◌≡◌, ◌+◌, ◌≤◌, length, sum_by};
+    ghost use Rattle.std.specs.Prelude.{◌≡◌, ◌-◌, ◌≤◌, length, sum_by};
     ghost use Rattle.std.specs.VecDeque.{deque_capacity};
-    ghost use Rattle.gp_plain.specs.Roomy.{Roomy, roomy, roomy_code};
+    ghost use Rattle.gp_plain.specs.Roomy.{Roomy, roomy};
     ghost use Rattle.gp_plain.specs.declared.reply.Piece.{Piece};
     ghost use Rattle.gp_plain.specs.Pieces.{weight};
 
     ghost Value = { Roomy Piece };
 
-    ghost view = { λ p. roomy p.pieces.items p.spare };
+    ghost view = { λ p. roomy p.pieces.items (deque_capacity p.pieces - length p.pieces.items) };
 
-    ghost invariant = { λ p. (length p.pieces.items + p.spare ≤ deque_capacity p.pieces) × (p.bytes ≡ sum_by weight p.pieces.items) × (p.bytes ≤ 524288) × (length p.pieces.items ≤ 1024) };
+    ghost invariant = { λ p. (p.bytes ≡ sum_by weight p.pieces.items) × (p.bytes ≤ 524288) × (length p.pieces.items ≤ 1024) };
 }
 
 impl Message {
@@ -67,7 +68,7 @@ impl Message {
 
 impl Piece {
     /// The bytes that it counts while it waits, where they fit a `usize`.
-    fn weight(&self) -> Option<usize>
+    pub fn weight(&self) -> Option<usize>
         ensures { MatchOption result (2 ^ 64 ≤ weight self.now) (λ n. n ≡ weight self.now) }
     {
         match self {
@@ -79,7 +80,6 @@ impl Piece {
         }
     }
 }
-
 /// How many pieces, from the first on, have at most as many bytes together as a batch, and how many bytes.
 fn counted(pieces: &VecDeque<Piece>) -> (usize, usize)
     ensures count { result.0 ≡ count_within 65536 pieces.now.items }
@@ -156,19 +156,23 @@ fn copied(alloc: Global, pieces: &VecDeque<Piece>) -> Result<Vec<Piece>, AllocEr
 impl Pending {
     /// No piece, and no room. It takes no memory.
     pub fn new(alloc: Global) -> Pending
-        ensures { result ≡ roomy [] 0 }
+        ensures { result.items ≡ [] }
     {
         Pending {
             alloc,
             pieces: VecDeque::new(alloc),
-            spare: 0,
             bytes: 0,
         }
     }
 
-    /// How many pieces wait.
+    /// The allocator that it keeps.
+    pub fn alloc(&self) -> Global {
+        self.alloc
+    }
+
+    /// How many pieces wait, at most 1,024.
     pub fn len(&self) -> usize
-        ensures { result ≡ length self.now.items }
+        ensures { (result ≡ length self.now.items) × (result ≤ 1024) }
     {
         self.pieces.len()
     }
@@ -180,44 +184,34 @@ impl Pending {
         self.pieces.is_empty()
     }
 
-    /// Whether one more piece would be within the limits.
-    pub fn has_room(&self, piece: &Piece) -> bool
-        ensures { result ≡ has_room self.now.items piece.now }
+    /// How many bytes wait, at most 524,288.
+    pub fn bytes(&self) -> usize
+        ensures { (result ≡ sum_by weight self.now.items) × (result ≤ 524288) }
     {
-        match piece.weight() {
-            Some(weight) => weight <= BYTES - self.bytes && self.pieces.len() < PIECES,
-            None => false,
-        }
+        self.bytes
     }
 
-    /// Makes room for so many more pieces. The pieces stay as they are.
-    pub fn reserve(&mut self, more: usize) -> Result<(), AllocError>
-        ensures items { self.new.items ≡ self.old.items }
-        ensures room { OnOk result (more ≤ self.new.spare) }
-        ensures err { OnErr result (self.new ≡ self.old) }
+    /// For how many more pieces it has room.
+    pub fn spare(&self) -> usize
+        ensures { result ≡ self.now.spare }
     {
-        self.pieces.reserve(more)?;
-        if self.spare < more {
-            self.spare = more;
-        }
-        Ok(())
+        self.pieces.capacity() - self.pieces.len()
     }
 
-    /// Adds a piece at the end. It takes no memory.
-    pub fn push(&mut self, piece: Piece)
-        requires spare { 0 < self.old.spare }
-        requires room { has_room self.old.items piece ≡ true }
-        ensures { self.new ≡ roomy (self.old.items ++ piece ∷ []) (self.old.spare - 1) }
+    /// Adds the pieces of a run at the end. It takes no memory.
+    pub fn append(&mut self, run: Run)
+        requires { IsReady self.old run }
+        ensures { self.new.items ≡ self.old.items ++ run.pieces }
     {
-        let weight = match piece.weight() {
-            Some(weight) => weight,
-            None => unreachable!(),
-        };
-        match self.pieces.push_back(piece) {
-            Ok(()) => {
-                self.spare -= 1;
-                self.bytes += weight;
+        let (mut more, bytes, room) = run.into_parts();
+        if let Some(mut pieces) = room {
+            match pieces.append(&mut self.pieces) {
+                Ok(()) => self.pieces = pieces,
+                Err(_) => unreachable!(),
             }
+        }
+        match self.pieces.append(&mut more) {
+            Ok(()) => self.bytes += bytes,
             Err(_) => unreachable!(),
         }
     }

@@ -1,4 +1,5 @@
-ghost use Rattle.std.specs.Prelude.{ℕ, ◌≡◌, ◌++◌, ◌∷◌, [], MatchOption, OnOk, OnErr, option_map, slice_get};
+ghost use Rattle.std.specs.Prelude.{ℕ, ◌≡◌, ◌++◌, ◌∷◌, [], MatchOption, eqb, OnOk, OnErr, option_map, slice_get};
+ghost use Rattle.std.specs.List.{list_any};
 ghost use Rattle.gp_plain.specs.Tails.{IsNextAfter, IsNoNextAfter, ahead, on_channel};
 
 use crate::item::Item;
@@ -39,6 +40,13 @@ impl Places {
             Ok(()) => Ok(()),
             Err(_) => Err(AllocError),
         }
+    }
+
+    /// Whether the place was added.
+    pub fn has(&self, place: usize) -> bool
+        ensures { result ≡ list_any (λ other. eqb other place) self.now }
+    {
+        self.places.iter().any(|other| *other == place)
     }
 
     /// The places, in order.

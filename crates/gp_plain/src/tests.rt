@@ -1,4 +1,4 @@
-use crate::{Body, ItemId, List, Name, NameFault, Pending, Piece, Places, Queue, Roomed};
+use crate::{Body, ItemId, List, Name, NameFault, Pending, Piece, Places, Queue, Roomed, Run};
 use std::alloc::Global;
 use std::test::Fail;
 
@@ -21,13 +21,17 @@ fn a_name_is_refused_by_its_first_fault(rt: HostRuntime) -> Result<(), Fail> {
 /// How many pieces a Take gives of two of so many bytes.
 fn given(alloc: Global, size: usize) -> Result<usize, Fail> {
     let mut pending = Pending::new(alloc);
-    for _turn in 0..2u8 {
-        let piece = Piece::Opening(Body::from_vec(vec![in alloc; b'x'; size]?));
-        pending.reserve(1)?;
-        if pending.has_room(&piece) {
-            pending.push(piece);
-        }
-    }
+    let mut run = Run::behind(&pending);
+    run.add(
+        &pending,
+        Piece::Opening(Body::from_vec(vec![in alloc; b'x'; size]?)),
+    )?;
+    run.add(
+        &pending,
+        Piece::Opening(Body::from_vec(vec![in alloc; b'x'; size]?)),
+    )?;
+    run.reserve(&pending)?;
+    pending.append(run);
     Ok(pending.take()?.len())
 }
 

@@ -3,30 +3,21 @@ use Rattle.std.specs.Prelude.{ℕ, zero, suc, cond, List, [], ◌∷◌, ◌++�
 use Rattle.std.specs.List.{flat_map}
 use Rattle.gp_plain.specs.declared.event.Event.{Event}
 use Rattle.gp_plain.specs.declared.event.Event.TheVariants.{Attach, Publish, Take, Page, PageFailed, Push, Join, Leave, Detach}
-use Rattle.gp_plain.specs.declared.event.HoldSpec.{HoldSpec}
-use Rattle.gp_plain.specs.declared.event.HoldSpec.TheVariants.{Stream, Plain, Response, Socket}
 use Rattle.gp_plain.specs.declared.reply.Piece.{Piece}
 use Rattle.gp_plain.specs.declared.reply.EndCause.{EndCause}
 use Rattle.gp_plain.specs.declared.reply.Reply.{Reply}
 use Rattle.gp_plain.specs.declared.reply.Reply.TheVariants.{Attached, Taken, Done}
 use Rattle.gp_plain.specs.Pieces.{text, position_after}
-use Rattle.gp_plain.specs.Holds.{Held, log, terms_of, end_or_detached}
+use Rattle.gp_plain.specs.Holds.{Held, log, ended, start_of, terms_of, end_or_detached}
 use Rattle.gp_plain.specs.History.{pending_at, cause_at}
 use Rattle.gp_script.specs.Texts.{hold_text, piece_text, end_text}
 use Rattle.gp_proxy.specs.declared.log.Log.{Log}
 use Rattle.gp_proxy.specs.declared.log.Noted.{Noted}
 use Rattle.gp_proxy.specs.declared.log.Noted.TheVariants.{Nothing, Begins, Takes, LetsGo}
 
--- the first position of a hold that has one
-abbrev pub start_of : HoldSpec → Option (List ℕ)
-start_of (Stream opening channel prev link) = Some prev
-start_of (Plain opening channels) = None
-start_of (Response channels prev deadline again) = prev
-start_of Socket = None
-
 -- what is kept of a hold: what was taken, and of a released hold the whole log and the end
 abbrev pub log_of : Held → Log
-log_of h = record { kind = (terms_of h.spec).kind; start = start_of h.spec; pieces = cond h.released (log h) h.taken; ended = cond h.released h.ended None }
+log_of h = record { kind = (terms_of h.spec).kind; start = start_of h.spec; pieces = cond h.released (log h) h.taken; ended = cond h.released (ended h) None }
 
 abbrev pub noted_of : List Held → Event → Noted
 noted_of holds (Attach spec) = Begins (terms_of spec).kind (start_of spec)

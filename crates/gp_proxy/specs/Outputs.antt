@@ -4,7 +4,7 @@ use Rattle.std.specs.List.{flat_map}
 use Rattle.gp_plain.specs.declared.event.Event.{Event}
 use Rattle.gp_plain.specs.declared.event.Entry.{Entry}
 use Rattle.gp_plain.specs.Pieces.{text}
-use Rattle.gp_plain.specs.Holds.{Held, log, position, terms_of}
+use Rattle.gp_plain.specs.Holds.{Held, log, position, ended, terms_of}
 use Rattle.gp_plain.specs.History.{held, reply}
 use Rattle.gp_script.specs.Texts.{reply_text, hold_text, piece_text, end_text}
 use Rattle.gp_proxy.specs.Scripts.{entry_of, entries_of}
@@ -16,7 +16,7 @@ replies_text past (event ∷ events) = reply_text (reply past 0 event) ++ replie
 
 -- the log of a hold: its kind, its pieces, their bytes, its position and its end
 abbrev pub log_text : ℕ → Held → List ℕ
-log_text number h = hold_text number (terms_of h.spec).kind ++ (flat_map piece_text (log h) ++ end_text (text (log h)) (position h) h.ended)
+log_text number h = hold_text number (terms_of h.spec).kind ++ (flat_map piece_text (log h) ++ end_text (text (log h)) (position h) (ended h))
 
 -- the logs of holds, the first of which has a number
 abbrev pub logs_text : ℕ → List Held → List ℕ

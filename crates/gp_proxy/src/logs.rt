@@ -3,7 +3,8 @@ ghost use Rattle.gp_plain.specs.Holds.{Held};
 ghost use Rattle.gp_plain.specs.History.{held};
 ghost use Rattle.gp_plain.specs.Standing.{StandsFor};
 ghost use Rattle.gp_plain.specs.declared.event.Entry.{Entry};
-ghost use Rattle.gp_proxy.specs.Logs.{after_note, longer, noted_of, start_of};
+ghost use Rattle.gp_plain.specs.Holds.{start_of};
+ghost use Rattle.gp_proxy.specs.Logs.{after_note, longer, noted_of};
 ghost use Rattle.gp_plain.specs.Holds.{terms_of};
 
 use crate::log::{Log, Noted};

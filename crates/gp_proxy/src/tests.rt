@@ -77,6 +77,79 @@ fn scripts_are_played(rt: HostRuntime) -> Result<(), Fail> {
 }
 
 #[test]
+fn items_wait_in_the_window(rt: HostRuntime) -> Result<(), Fail> {
+    let rows: [(&[u8], &[u8]); 10] = [
+        (
+            b"attach stream news a link !\npublish news c b Y\npublish news b a X\n",
+            b"attached 0\npublished 0\npublished 1\nhold 0 stream\nopening !\nitem b X\nitem c Y\ntext XY\nlive c\n",
+        ),
+        (
+            b"publish news b a X\nattach stream news a link hi\n",
+            b"published 0\nattached 0\nhold 0 stream\nopening hi\nitem b X\ntext hiX\nlive b\n",
+        ),
+        (
+            b"publish news b a X\nattach stream news z link hi\ntake 0 0\n",
+            b"published 0\nattached 0\ntaken 1 z !\nhold 0 stream\nopening hi\ntext hi\nlive z\n",
+        ),
+        (
+            b"attach stream news a link !\npublish news b a X\nmessage news c b text W\npublish news d c Y\n",
+            b"attached 0\npublished 1\npublished 1\npublished 1\nhold 0 stream\nopening !\nitem b X\nitem c !\nitem d Y\ntext XY\nlive d\n",
+        ),
+        (
+            b"attach stream news a nolink hi\npublish news d c Z\nclose news c b\npublish news b a X\ntake 0 0\n",
+            b"attached 0\npublished 0\npublished 0\npublished 1\ntaken 3 ! closed\nhold 0 stream\nopening hi\nitem b X\nclose c\ntext hiX\nended closed c\n",
+        ),
+        (
+            b"attach stream news a link !\npublish news b a X\npublish news b a X\npublish news a q V\n",
+            b"attached 0\npublished 1\nrepeat b\npublished 0\nhold 0 stream\nopening !\nitem b X\ntext X\nlive b\n",
+        ),
+        (
+            b"attach response news ! 100 first\ntake 0 99\nanswer news ! ! 200 A\ntake 0 100\n",
+            b"attached 0\ntaken 0 ! !\npublished 1\ntaken 1 ! answered\nhold 0 response\nanswer 200 A\ntext A\nended answered !\n",
+        ),
+        (
+            b"attach response news ! 100 first\ntake 0 100\n",
+            b"attached 0\ntaken 0 ! timedout\nhold 0 response\ntext !\nended timedout !\n",
+        ),
+        (
+            b"attach response news a 100 first\nanswer news c b 200 C\ntake 0 1\nattach response news c 100 again\n",
+            b"attached 0\npublished 0\ntaken 0 a retry\nattached 1\nhold 0 response\ntext !\nended retry a\nhold 1 response\ntext !\nlive c\n",
+        ),
+        (
+            b"attach plain news,sport hi\npublish sport ! ! S\nbare news b a\n",
+            b"attached 0\npublished 1\npublished 0\nhold 0 plain\nopening hi\nitem ! S\ntext hiS\nlive !\n",
+        ),
+    ];
+    for (script, output) in rows {
+        let (status, written) = played(rt.alloc(), script)?;
+        assert_eq!(rt; status, Status::Done);
+        assert_eq!(rt; written.as_slice(), output);
+    }
+    Ok(())
+}
+
+/// A hold without a link, and so many items that it misses.
+fn missing(alloc: Global, count: u32) -> Result<Vec<u8>, AllocError> {
+    let mut script = Vec::from_slice(alloc, b"attach stream news a nolink !\n")?;
+    for item in 0..count {
+        let line = format!(in alloc; "publish news x{item} y{item} Z\n")?;
+        script.extend_from_slice(line.as_bytes())?;
+    }
+    Ok(script)
+}
+
+#[test]
+fn sixty_four_misses_end_a_hold_without_a_link(rt: HostRuntime) -> Result<(), Fail> {
+    let few = missing(rt.alloc(), 63)?;
+    let (_, lives) = played(rt.alloc(), few.as_slice())?;
+    assert!(rt; lives.as_slice().ends_with(b"\nlive a\n".as_slice()));
+    let many = missing(rt.alloc(), 64)?;
+    let (_, ends) = played(rt.alloc(), many.as_slice())?;
+    assert!(rt; ends.as_slice().ends_with(b"\nended gap a\n".as_slice()));
+    Ok(())
+}
+
+#[test]
 fn second_spellings_are_bad_lines(rt: HostRuntime) -> Result<(), Fail> {
     let rows: [(&[u8], u32); 9] = [
         (b"publish news b a X", 1),
@@ -153,8 +226,8 @@ fn overflowing(alloc: Global) -> Result<Vec<u8>, AllocError> {
     push_long(&mut script, "publish news 4 3 ", 65_536)?;
     push_long(&mut script, "publish news 5 4 ", 65_536)?;
     push_long(&mut script, "publish news 6 5 ", 1)?;
-    push_long(&mut script, "publish news 5 4 ", 1)?;
     push_long(&mut script, "publish news 7 6 ", 1)?;
+    push_long(&mut script, "publish news 8 7 ", 1)?;
     Ok(script)
 }
 

@@ -5,3 +5,4 @@ pub mod Standing
 pub mod Taking
 pub mod Finding
 pub mod Serving
+mod Planning

@@ -1,142 +1,78 @@
 -- A step on what a registry keeps is the step of the history.
-use Rattle.std.proofs.Common.{◌≡◌, ℕ, zero, suc, ◌+◌, ◌<◌, ◌≤◌, ◌==◌, Bool, true, false, cond, not, ◌||◌, ◌&&◌, nat_lt, List, [], ◌∷◌, ◌++◌, length, map, fold, slice_get, Option, Some, None, is_some, option_map, refl, ap, sym, subst, ◌∙◌, arith, length-append, append_assoc, add-zero, eq-eqb}
+use Rattle.std.proofs.Common.{◌≡◌, ℕ, zero, suc, ◌+◌, ◌<◌, ◌≤◌, ◌==◌, Bool, true, false, cond, not, ◌||◌, ◌&&◌, nat_lt, List, [], ◌∷◌, ◌++◌, length, map, count_by, fold, slice_get, Option, Some, None, is_some, option_map, refl, ap, sym, subst, ◌∙◌, arith, length-append, append_assoc, add-zero, eq-eqb}
 use Rattle.std.proofs.lemmas.Bool.Decides.{nat_tests}
 use Rattle.std.proofs.lemmas.List.{length-map}
 use Rattle.std.proofs.lemmas.List.Sums.{fold-append}
+use Rattle.std.specs.List.{AllByRecursion}
 use Rattle.std.specs.Option.{option_map_or}
 use Rattle.gp_plain.specs.declared.item.Item.{Item}
 use Rattle.gp_plain.specs.declared.event.Entry.{Entry}
 use Rattle.gp_plain.specs.declared.event.Event.{Event}
 use Rattle.gp_plain.specs.declared.event.Event.TheVariants.{Attach, Publish, Take, Page, PageFailed, Push, Join, Leave, Detach}
 use Rattle.gp_plain.specs.declared.event.HoldSpec.{HoldSpec}
-use Rattle.gp_plain.specs.declared.event.HoldSpec.TheVariants.{Stream, Plain, Response, Socket}
 use Rattle.gp_plain.specs.declared.reply.Piece.{Piece}
 use Rattle.gp_plain.specs.declared.reply.EndCause.{EndCause}
-use Rattle.gp_plain.specs.declared.reply.EndCause.TheVariants.{Overflow}
 use Rattle.gp_plain.specs.declared.reply.Reply.{Reply}
-use Rattle.gp_plain.specs.declared.reply.Reply.TheVariants.{Attached, Full, Published, Taken, Done, Foreign}
-use Rattle.gp_plain.specs.Pieces.{moved, end_by, has_room, batch, left}
-use Rattle.gp_plain.specs.Holds.{Held, log, position, position_of, terms_of, is_live, added, run, run_for, misses, grew, offered, served, asks, ends_now, taken_of, after_take, after_detach, begun}
-use Rattle.gp_plain.specs.History.{kept_count, has_place, if_kept, kept_at, refused_or, changed_if, changed, after_event, after, held, answer, reply, pending_at, position_at, position_if, cause_at}
+use Rattle.gp_plain.specs.declared.reply.Reply.TheVariants.{Attached, Full, Published, Repeat, Taken, Done, Foreign}
+use Rattle.gp_plain.specs.Pieces.{id_or}
+use Rattle.gp_plain.specs.Follow.{last_items, is_repeat}
+use Rattle.gp_plain.specs.Holds.{State, Held, pending, position, ended, is_live, offered, settled_if, served, grew, taken_of, taken_from, let_go, begun}
+use Rattle.gp_plain.specs.History.{Past, kept_count, has_place, if_kept, kept_at, refused_or, changed_if, changed, served_by, with_item, with_hold, after_event, after, nothing, past_of, held, answer, reply, pending_at, position_at, cause_at}
 use Rattle.gp_plain.specs.Standing.{Kept, Standing, kept_of, kept_from, standing_of, StandsFor}
-use Rattle.gp_plain.proofs.ChainLaw.{take_log}
-use Rattle.gp_registry.specs.Keeps.{moved_position, added_kept, run_kept, grew_kept, marked_kept, settled_kept, offered_kept, served_kept, asks_kept, taken_kept}
-use Rattle.gp_registry.specs.Steps.{found, if_own, replaced, kept_after_take, kept_after_detach, has_place_kept, stepped, refused_or_kept, answered, kept_pending, kept_position, kept_cause}
+use Rattle.gp_plain.proofs.Windows.{last_push_again}
+use Rattle.gp_plain.proofs.Released.{have_ended}
+use Rattle.gp_registry.specs.Keeps.{pushed, served_kept, grew_kept, taken_kept}
+use Rattle.gp_registry.specs.Steps.{found, if_own, replaced, kept_after_take, kept_after_detach, has_place_kept, fresh_kept, attached, published, stepped, refused_or_kept, answered, kept_pending, kept_position, kept_cause}
 
--- one hold
-
-position_push : (spec : HoldSpec) (ps : List Piece) (p : Piece) → position_of spec (ps ++ p ∷ []) ≡ moved_position p (position_of spec ps)
-position_push (Stream opening channel prev link) ps p = ap Some (fold-append moved prev ps (p ∷ []))
-position_push (Plain opening channels) ps p = refl
-position_push (Response channels None deadline again) ps p = refl
-position_push (Response channels (Some prev) deadline again) ps p = ap Some (fold-append moved prev ps (p ∷ []))
-position_push Socket ps p = refl
-
-live_is : (h : Held) → h.released ≡ false → is_live h ≡ not (is_some h.ended)
-live_is h r = rw r refl
-
-added_by : (n : ℕ) (h : Held) (p : Piece) (live room : Bool)
-    → kept_of n (cond live (cond room (record h { pending = h.pending ++ p ∷ []; ended = end_by p }) (record h { ended = Some Overflow })) h)
-    ≡ cond live (cond room (record (kept_of n h) { pending = h.pending ++ p ∷ []; position = moved_position p (position h); ended = end_by p }) (record (kept_of n h) { ended = Some Overflow })) (kept_of n h)
-added_by n h p false room = refl
-added_by n h p true false = refl
-added_by n h p true true =
-    let e : position_of h.spec (h.taken ++ (h.pending ++ p ∷ [])) ≡ moved_position p (position h) = ap (position_of h.spec) (sym (append_assoc h.taken h.pending (p ∷ []))) ∙ position_push h.spec (log h) p in
-    ap (λ (at : Option (List ℕ)). let k : Kept = record { number = n; owner = h.owner; terms = terms_of h.spec; pending = h.pending ++ p ∷ []; position = at; ended = end_by p; want = h.want; asked = h.asked; late = h.late } in k) e
-
-added_is : (n : ℕ) (h : Held) (p : Piece) → h.released ≡ false → kept_of n (added h p) ≡ added_kept (kept_of n h) p
-added_is n h p r =
-    ap (λ b. kept_of n (cond b (cond (has_room h.pending p) (record h { pending = h.pending ++ p ∷ []; ended = end_by p }) (record h { ended = Some Overflow })) h)) (live_is h r)
-    ∙ added_by n h p (not (is_some h.ended)) (has_room h.pending p)
-
-released_by : (h : Held) (p : Piece) (live room : Bool)
-    → (cond live (cond room (record h { pending = h.pending ++ p ∷ []; ended = end_by p }) (record h { ended = Some Overflow })) h).released ≡ h.released
-released_by h p false room = refl
-released_by h p true true = refl
-released_by h p true false = refl
-
-run_released : (h : Held) (ps : List Piece) → (run h ps).released ≡ h.released
-run_released h [] = refl
-run_released h (p ∷ ps) = run_released (added h p) ps ∙ released_by h p (is_live h) (has_room h.pending p)
-
-run_is : (n : ℕ) (h : Held) (ps : List Piece) → h.released ≡ false → kept_of n (run h ps) ≡ run_kept (kept_of n h) ps
-run_is n h [] r = refl
-run_is n h (p ∷ ps) r = run_is n (added h p) ps (released_by h p (is_live h) (has_room h.pending p) ∙ r) ∙ ap (λ k. run_kept k ps) (added_is n h p r)
-
-offered_is : (n : ℕ) (item : Item) (h : Held) → h.released ≡ false → kept_of n (offered item h) ≡ offered_kept item (kept_of n h)
-offered_is n item h r =
-    ap (λ k. settled_kept (grew_kept (kept_of n h) k) (marked_kept (misses (terms_of h.spec) (position h) item) k)) (run_is n h (run_for (terms_of h.spec) (position h) item) r)
-
-served_by : (n : ℕ) (item : Item) (h : Held) (live : Bool) → h.released ≡ false → kept_of n (cond live (offered item h) h) ≡ cond live (offered_kept item (kept_of n h)) (kept_of n h)
-served_by n item h true r = offered_is n item h r
-served_by n item h false r = refl
-
-pub served_is : (n : ℕ) (item : Item) (h : Held) → h.released ≡ false → kept_of n (served item h) ≡ served_kept item (kept_of n h)
-served_is n item h r = ap (λ b. kept_of n (cond b (offered item h) h)) (live_is h r) ∙ served_by n item h (not (is_some h.ended)) r
-
-served_released_by : (item : Item) (h : Held) (live : Bool) → (cond live (offered item h) h).released ≡ h.released
-served_released_by item h true = run_released h (run_for (terms_of h.spec) (position h) item)
-served_released_by item h false = refl
-
-served_released : (item : Item) (h : Held) → (served item h).released ≡ h.released
-served_released item h = served_released_by item h (is_live h)
-
-grew_is : (n : ℕ) (item : Item) (h : Held) → h.released ≡ false → grew h (served item h) ≡ grew_kept (kept_of n h) (served_kept item (kept_of n h))
-grew_is n item h r = ap (λ (k : Kept). nat_lt (length h.pending) (length k.pending)) (served_is n item h r)
-
-not_less : (n : ℕ) → nat_lt n n ≡ false
-not_less n = grind (arith, nat_tests)
-
-released_stays : (item : Item) (h : Held) → h.released ≡ true → grew h (served item h) ≡ false
-released_stays item h r = rw r (not_less (length h.pending))
-
-asks_is : (n : ℕ) (h : Held) → h.released ≡ false → asks h ≡ asks_kept (kept_of n h)
-asks_is n h r = rw r refl
-
-taken_is : (n : ℕ) (h : Held) → h.released ≡ false → taken_of h ≡ taken_kept (kept_of n h)
-taken_is n h r = rw r refl
+absurd_true : {A : Type 0} → false ≡ true → A
+absurd_true e = cc
 
 -- the kept ones of one hold
 abbrev one : ℕ → Held → List Kept
 one n h = cond h.released [] (kept_of n h ∷ [])
 
-take_by : (n : ℕ) (h : Held) (told : Option EndCause) (asks_now : Bool) → h.released ≡ false
-    → one n (record h { taken = h.taken ++ batch h.pending; pending = left h.pending; told = told; released = h.released || is_some told; want = h.want && not asks_now; asked = h.asked || asks_now; late = h.late && not asks_now })
-    ≡ cond (is_some told) [] ((record (kept_of n h) { pending = left h.pending; want = h.want && not asks_now; asked = h.asked || asks_now; late = h.late && not asks_now }) ∷ [])
-take_by n h told asks_now r =
-    rw r (ap (λ (ps : List Piece). cond (is_some told) [] ((let k : Kept = record { number = n; owner = h.owner; terms = terms_of h.spec; pending = left h.pending; position = position_of h.spec ps; ended = h.ended; want = h.want && not asks_now; asked = h.asked || asks_now; late = h.late && not asks_now } in k) ∷ [])) (take_log h))
+after_take_is : (now n : ℕ) (h : Held) → h.released ≡ false → one n (taken_from now h) ≡ kept_after_take now (kept_of n h)
+after_take_is now n h r = rw r refl
 
-after_take_is : (n : ℕ) (h : Held) → h.released ≡ false → one n (after_take h) ≡ kept_after_take (kept_of n h)
-after_take_is n h r = take_by n h (ends_now h.ended (left h.pending)) (asks h) r
-    ∙ ap (λ b. cond (is_some (ends_now h.ended (left h.pending))) [] ((record (kept_of n h) { pending = left h.pending; want = h.want && not b; asked = h.asked || b; late = h.late && not b }) ∷ [])) (asks_is n h r)
-
-after_detach_is : (n : ℕ) (h : Held) → h.released ≡ false → one n (after_detach h) ≡ kept_after_detach (kept_of n h)
+after_detach_is : (n : ℕ) (h : Held) → h.released ≡ false → one n (let_go h) ≡ kept_after_detach (kept_of n h)
 after_detach_is n h r = refl
 
 -- all holds
 
-cons_map : (g : Kept → Kept) (x y : Kept) (ks : List Kept) (b : Bool) → (b ≡ false → y ≡ g x) → map g (cond b ks (x ∷ ks)) ≡ cond b (map g ks) (y ∷ map g ks)
-cons_map g x y ks true e = refl
-cons_map g x y ks false e = ap (λ k. k ∷ map g ks) (sym (e refl))
+map_by : (g : Kept → Kept) (x : Kept) (ks ls : List Kept) (b : Bool) → ls ≡ map g ks → cond b ls (g x ∷ ls) ≡ map g (cond b ks (x ∷ ks))
+map_by g x ks ls true e = e
+map_by g x ks ls false e = ap (λ xs. g x ∷ xs) e
 
-kept_map : (item : Item) (n : ℕ) (hs : List Held) → kept_from n (map (served item) hs) ≡ map (served_kept item) (kept_from n hs)
-kept_map item n [] = refl
-kept_map item n (x ∷ hs) =
-    ap (λ b. cond b (kept_from (n + 1) (map (served item) hs)) (kept_of n (served item x) ∷ kept_from (n + 1) (map (served item) hs))) (served_released item x)
-    ∙ ap (λ ks. cond x.released ks (kept_of n (served item x) ∷ ks)) (kept_map item (n + 1) hs)
-    ∙ sym (cons_map (served_kept item) (kept_of n x) (kept_of n (served item x)) (kept_from (n + 1) hs) x.released (served_is n item x))
+kept_map : (item : Item) (before after : List Item) (n : ℕ) (hs : List Held) → kept_from n (map (served_by item before after) hs) ≡ map (served_kept item before after) (kept_from n hs)
+kept_map item before after n [] = refl
+kept_map item before after n (x ∷ hs) =
+    map_by (served_kept item before after) (kept_of n x) (kept_from (n + 1) hs) (kept_from (n + 1) (map (served_by item before after) hs)) x.released (kept_map item before after (n + 1) hs)
+
+not_less : (n : ℕ) → nat_lt n n ≡ false
+not_less n = grind (arith, nat_tests)
+
+dead_by : (item : Item) (before after : List Item) (s : State) (live : Bool) → live ≡ false → grew s (cond live (let next = offered item before s in settled_if (grew s next) after next) s) ≡ false
+dead_by item before after s true e = absurd_true (sym e)
+dead_by item before after s false e = not_less (length s.pending)
+
+dead_grows : (item : Item) (before after : List Item) (s : State) → is_live s ≡ false → grew s (served item before after s) ≡ false
+dead_grows item before after s e = dead_by item before after s (is_live s) e
 
 count_cons : (q : Kept → Bool) (x : Kept) (ks : List Kept) (b p : Bool) (m : ℕ) → (b ≡ false → p ≡ q x) → (b ≡ true → p ≡ false)
     → fold (λ (a : ℕ) (k : Kept). a + cond (q k) 1 0) (m + cond p 1 0) ks ≡ fold (λ (a : ℕ) (k : Kept). a + cond (q k) 1 0) m (cond b ks (x ∷ ks))
 count_cons q x ks true p m e none = ap (λ c. fold (λ (a : ℕ) (k : Kept). a + cond (q k) 1 0) (m + cond c 1 0) ks) (none refl) ∙ ap (λ i. fold (λ (a : ℕ) (k : Kept). a + cond (q k) 1 0) i ks) (add-zero m)
 count_cons q x ks false p m e none = ap (λ c. fold (λ (a : ℕ) (k : Kept). a + cond (q k) 1 0) (m + cond c 1 0) ks) (e refl)
 
-grown_count : (item : Item) (m n : ℕ) (hs : List Held)
-    → fold (λ (a : ℕ) (h : Held). a + cond (grew h (served item h)) 1 0) m hs ≡ fold (λ (a : ℕ) (k : Kept). a + cond (grew_kept k (served_kept item k)) 1 0) m (kept_from n hs)
-grown_count item m n [] = refl
-grown_count item m n (x ∷ hs) =
-    grown_count item (m + cond (grew x (served item x)) 1 0) (n + 1) hs
-    ∙ count_cons (λ (k : Kept). grew_kept k (served_kept item k)) (kept_of n x) (kept_from (n + 1) hs) x.released (grew x (served item x)) m (grew_is n item x) (released_stays item x)
+-- a released hold has ended
+abbrev pub Ends : Held → Type 0
+Ends h = h.released ≡ true → is_live h.state ≡ false
+
+counted : (item : Item) (before after : List Item) (m n : ℕ) (hs : List Held) → AllByRecursion Ends hs
+    → fold (λ (a : ℕ) (h : Held). a + cond (grew h.state (served_by item before after h).state) 1 0) m hs ≡ fold (λ (a : ℕ) (k : Kept). a + cond (grew_kept k (served_kept item before after k)) 1 0) m (kept_from n hs)
+counted item before after m n [] all = refl
+counted item before after m n (x ∷ hs) all =
+    counted item before after (m + cond (grew x.state (served item before after x.state)) 1 0) (n + 1) hs all.1
+    ∙ count_cons (λ (k : Kept). grew_kept k (served_kept item before after k)) (kept_of n x) (kept_from (n + 1) hs) x.released (grew x.state (served item before after x.state)) m (λ _. refl) (λ e. dead_grows item before after x.state (all.0 e))
 
 length_cond : (m : ℕ) (x : Kept) (ks : List Kept) (b : Bool) → (m + cond (not b) 1 0) + length ks ≡ m + length (cond b ks (x ∷ ks))
 length_cond m x ks true = omega arith
@@ -254,24 +190,39 @@ changed_length who (suc m) change (x ∷ hs) = ap suc (changed_length who m chan
 
 -- one event
 
-attached_by : (hs : List Held) (h : Held) (b : Bool) → h.released ≡ false
-    → standing_of (cond b (hs ++ h ∷ []) hs) ≡ cond b (record { next = length hs + 1; kept = kept_from 0 hs ++ kept_of (length hs) h ∷ [] }) (standing_of hs)
-attached_by hs h false r = refl
-attached_by hs h true r =
-    let k = kept_push 0 hs h r ∙ ap (λ i. kept_from 0 hs ++ kept_of i h ∷ []) (zero_plus (length hs)) in
-    let l : length (hs ++ h ∷ []) ≡ length hs + 1 = length-append hs (h ∷ []) in
+attached_by : (past : Past) (h : Held) (b : Bool) → h.released ≡ false
+    → standing_of (cond b (with_hold past h) past) ≡ cond b (attached (standing_of past) (kept_of (length past.holds) h)) (standing_of past)
+attached_by past h false r = refl
+attached_by past h true r =
+    let k = kept_push 0 past.holds h r ∙ ap (λ i. kept_from 0 past.holds ++ kept_of i h ∷ []) (zero_plus (length past.holds)) in
+    let l : length (past.holds ++ h ∷ []) ≡ length past.holds + 1 = length-append past.holds (h ∷ []) in
     cc (k, l)
 
-pub stepped_is : (hs : List Held) (who : ℕ) (event : Event) → standing_of (after_event hs who event) ≡ stepped (standing_of hs) who event
-stepped_is hs who (Attach spec) = attached_by hs (begun who spec) (has_place hs) refl ∙ ap (λ n. cond (nat_lt n 4096) (record { next = length hs + 1; kept = kept_from 0 hs ++ kept_of (length hs) (begun who spec) ∷ [] }) (standing_of hs)) (count_is hs)
-stepped_is hs who (Publish item) = cc (length-map hs (served item), kept_map item 0 hs)
-stepped_is hs who (Take hold now) = cc (changed_length who hold after_take hs, changed_is who hold after_take kept_after_take hs after_take_is)
-stepped_is hs who (Detach hold) = cc (changed_length who hold after_detach hs, changed_is who hold after_detach kept_after_detach hs after_detach_is)
-stepped_is hs who (Page hold from to bytes then) = refl
-stepped_is hs who (PageFailed hold) = refl
-stepped_is hs who (Push hold message) = refl
-stepped_is hs who (Join hold channel) = refl
-stepped_is hs who (Leave hold channel) = refl
+-- the window of a list with one more item is the window with it
+window_more : (xs : List Item) (x : Item) → last_items (xs ++ x ∷ []) ≡ pushed (last_items xs) x
+window_more xs x = last_push_again xs x
+
+published_by : (past : Past) (item : Item) (b : Bool) → standing_of (cond b past (with_item past item)) ≡ cond b (standing_of past) (published (standing_of past) item)
+published_by past item true = refl
+published_by past item false =
+    let w = window_more past.published item in
+    let l = length-map past.holds (served_by item (last_items past.published) (last_items (past.published ++ item ∷ []))) in
+    let k = kept_map item (last_items past.published) (last_items (past.published ++ item ∷ [])) 0 past.holds
+    ∙ ap (λ ws. map (served_kept item (last_items past.published) ws) (kept_from 0 past.holds)) w in
+    cc (w, l, k)
+
+pub stepped_is : (past : Past) (who : ℕ) (event : Event) → standing_of (after_event past who event) ≡ stepped (standing_of past) who event
+stepped_is past who (Attach spec) =
+    let h = begun who spec (last_items past.published) in
+    attached_by past h (has_place past.holds) refl ∙ ap (λ n. cond (nat_lt n 4096) (attached (standing_of past) (kept_of (length past.holds) h)) (standing_of past)) (count_is past.holds)
+stepped_is past who (Publish item) = published_by past item (is_repeat (last_items past.published) item)
+stepped_is past who (Take hold now) = cc (changed_length who hold (taken_from now) past.holds, changed_is who hold (taken_from now) (kept_after_take now) past.holds (after_take_is now))
+stepped_is past who (Detach hold) = cc (changed_length who hold let_go past.holds, changed_is who hold let_go kept_after_detach past.holds after_detach_is)
+stepped_is past who (Page hold from to bytes then) = refl
+stepped_is past who (PageFailed hold) = refl
+stepped_is past who (Push hold message) = refl
+stepped_is past who (Join hold channel) = refl
+stepped_is past who (Leave hold channel) = refl
 
 refused_by : (who n : ℕ) (h : Held) (b : Bool) (r : Held → Reply) (s : Kept → Reply) → h.released ≡ b → ((k : Held) → k.released ≡ false → r k ≡ s (kept_of n k))
     → refused_or who n (cond b None (Some h)) r ≡ refused_or_kept who n (option_map (kept_of n) (cond b None (Some h))) s
@@ -287,43 +238,48 @@ refused_is : (who n : ℕ) (hs : List Held) (r : Held → Reply) (s : Kept → R
     → refused_or who n (kept_at hs n) r ≡ refused_or_kept who n (found n (kept_from 0 hs)) s
 refused_is who n hs r s is = refused_if who n (slice_get hs n) r s is ∙ ap (λ o. refused_or_kept who n o s) (sym (found_is n hs))
 
-pub answered_is : (hs : List Held) (who : ℕ) (event : Event) → answer hs who event ≡ answered (standing_of hs) who event
-answered_is hs who (Attach spec) = ap (λ n. cond (nat_lt n 4096) (Attached (length hs)) (Full 4096)) (count_is hs)
-answered_is hs who (Publish item) = ap Published (grown_count item 0 0 hs)
-answered_is hs who (Take hold now) = refused_is who hold hs (λ (h : Held). Taken (taken_of h)) (λ (k : Kept). Taken (taken_kept k)) (λ k r. ap Taken (taken_is hold k r))
-answered_is hs who (Detach hold) = refused_is who hold hs (λ (h : Held). Done) (λ (k : Kept). Done) (λ k r. refl)
-answered_is hs who (Page hold from to bytes then) = refl
-answered_is hs who (PageFailed hold) = refl
-answered_is hs who (Push hold message) = refl
-answered_is hs who (Join hold channel) = refl
-answered_is hs who (Leave hold channel) = refl
+pub answered_is : (past : Past) (who : ℕ) (event : Event) → AllByRecursion Ends past.holds → answer past who event ≡ answered (standing_of past) who event
+answered_is past who (Attach spec) all = ap (λ n. cond (nat_lt n 4096) (Attached (length past.holds)) (Full 4096)) (count_is past.holds)
+answered_is past who (Publish item) all =
+    let w = window_more past.published item in
+    let before = last_items past.published in
+    ap (λ n. cond (is_repeat before item) (Repeat (id_or item.id [])) (Published n))
+    (counted item before (last_items (past.published ++ item ∷ [])) 0 0 past.holds all
+    ∙ ap (λ ws. count_by (λ (k : Kept). grew_kept k (served_kept item before ws k)) (kept_from 0 past.holds)) w)
+answered_is past who (Take hold now) all = refused_is who hold past.holds (λ (h : Held). Taken (taken_of now h.state)) (λ (k : Kept). Taken (taken_kept now k)) (λ k r. refl)
+answered_is past who (Detach hold) all = refused_is who hold past.holds (λ (h : Held). Done) (λ (k : Kept). Done) (λ k r. refl)
+answered_is past who (Page hold from to bytes then) all = refl
+answered_is past who (PageFailed hold) all = refl
+answered_is past who (Push hold message) all = refl
+answered_is past who (Join hold channel) all = refl
+answered_is past who (Leave hold channel) all = refl
 
 -- histories
 
-held_more : (past : List Entry) (e : Entry) → held (past ++ e ∷ []) ≡ after (held past) e
-held_more past e = fold-append after [] past (e ∷ [])
+past_more : (past : List Entry) (e : Entry) → past_of (past ++ e ∷ []) ≡ after (past_of past) e
+past_more past e = fold-append after nothing past (e ∷ [])
 
 -- a registry that stands for a history stands for it with one more entry after the step
 pub stands_more : (past : List Entry) (s t : Standing) (who : ℕ) (event : Event) → StandsFor s past → t ≡ stepped s who event
     → StandsFor t (past ++ (record { who = who; event = event }) ∷ [])
 stands_more past s t who event at is =
-    is ∙ ap (λ u. stepped u who event) at ∙ sym (stepped_is (held past) who event) ∙ ap standing_of (sym (held_more past (record { who = who; event = event })))
+    is ∙ ap (λ u. stepped u who event) at ∙ sym (stepped_is (past_of past) who event) ∙ ap standing_of (sym (past_more past (record { who = who; event = event })))
 
 pub reply_is : (past : List Entry) (s : Standing) (who : ℕ) (event : Event) → StandsFor s past → reply past who event ≡ answered s who event
-reply_is past s who event at = answered_is (held past) who event ∙ ap (λ u. answered u who event) (sym at)
+reply_is past s who event at = answered_is (past_of past) who event (have_ended past) ∙ ap (λ u. answered u who event) (sym at)
 
 pub kept_length : (past : List Entry) (s : Standing) → StandsFor s past → kept_count (held past) ≡ length s.kept
 kept_length past s at = count_is (held past) ∙ ap (λ (u : Standing). length u.kept) (sym at)
 
-pending_by : (n : ℕ) (o : Option Held) → option_map_or (λ (h : Held). h.pending) o [] ≡ kept_pending (option_map (kept_of n) o)
+pending_by : (n : ℕ) (o : Option Held) → option_map_or pending o [] ≡ kept_pending (option_map (kept_of n) o)
 pending_by n None = refl
 pending_by n (Some h) = refl
 
-position_by : (n : ℕ) (o : Option Held) → position_if o ≡ kept_position (option_map (kept_of n) o)
+position_by : (n : ℕ) (o : Option Held) → option_map_or position o None ≡ kept_position (option_map (kept_of n) o)
 position_by n None = refl
 position_by n (Some h) = refl
 
-cause_by : (n : ℕ) (o : Option Held) → option_map_or (λ (h : Held). h.ended) o None ≡ kept_cause (option_map (kept_of n) o)
+cause_by : (n : ℕ) (o : Option Held) → option_map_or ended o None ≡ kept_cause (option_map (kept_of n) o)
 cause_by n None = refl
 cause_by n (Some h) = refl
 
@@ -343,10 +299,14 @@ next_by : (s t : Standing) (b : Bool) → t.next ≡ s.next + 1 → (cond b t s)
 next_by s t true e = omega arith
 next_by s t false e = omega arith
 
+same_next : (s t : Standing) (b : Bool) → t.next ≡ s.next → (cond b s t).next ≤ s.next + 1
+same_next s t true e = omega arith
+same_next s t false e = omega (arith, e)
+
 -- an event gives one number at most
 pub stepped_next : (s : Standing) (who : ℕ) (event : Event) → (stepped s who event).next ≤ s.next + 1
-stepped_next s who (Attach spec) = next_by s (record { next = s.next + 1; kept = s.kept ++ kept_of s.next (begun who spec) ∷ [] }) (has_place_kept s.kept) refl
-stepped_next s who (Publish item) = omega arith
+stepped_next s who (Attach spec) = next_by s (attached s (fresh_kept s who spec)) (has_place_kept s.kept) refl
+stepped_next s who (Publish item) = same_next s (published s item) (is_repeat s.window item) refl
 stepped_next s who (Take hold now) = omega arith
 stepped_next s who (Detach hold) = omega arith
 stepped_next s who (Page hold from to bytes then) = omega arith

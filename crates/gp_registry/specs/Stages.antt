@@ -1,66 +1,101 @@
 -- What a hold of the registry is seen as, before and after an item is served.
-use Rattle.std.specs.Prelude.{ℕ, ◌≡◌, ◌+◌, ◌<◌, ◌≤◌, Bool, true, false, List, [], ◌∷◌, ◌++◌, length, map, Option, Some, None}
+use Rattle.std.specs.Prelude.{ℕ, ◌≡◌, ◌==◌, ◌+◌, ◌<◌, ◌≤◌, Bool, true, false, not, List, [], ◌∷◌, length, map, Option, Some, None}
 use Rattle.gp_plain.specs.declared.item.Item.{Item}
-use Rattle.gp_plain.specs.declared.event.HoldKind.TheVariants.{Stream}
-use Rattle.gp_plain.specs.declared.reply.EndCause.TheVariants.{Overflow}
-use Rattle.gp_plain.specs.Pieces.{end_by, has_room}
+use Rattle.gp_plain.specs.declared.plan.Plan.{Plan}
+use Rattle.gp_plain.specs.Growth.{grown}
+use Rattle.gp_plain.specs.Holds.{State, grew, settled_if}
+use Rattle.gp_plain.specs.Plans.{Machine, with_plan, grows, IsPlanReady}
 use Rattle.gp_plain.specs.Standing.{Kept, Standing}
-use Rattle.gp_registry.specs.Keeps.{grew_kept, served_kept, marked_kept}
+use Rattle.gp_hold_stream.specs.declared.plain.PlainPlan.{PlainPlan}
+use Rattle.gp_hold_stream.specs.Plain.{IsPlainReady}
+use Rattle.gp_registry.specs.Keeps.{offered_if}
+use Rattle.gp_registry.specs.declared.machine.HoldMachine.{HoldMachine}
+use Rattle.gp_registry.specs.declared.machine.HoldMachine.TheVariants.{Stream, Plain, Response}
 use Rattle.gp_registry.specs.declared.hold.Hold.{Hold}
-use Rattle.gp_registry.specs.declared.hold.Staged.{Staged}
-use Rattle.gp_registry.specs.declared.hold.Staged.TheVariants.{Append, Overflow as NoRoom, Missed}
+
+abbrev pub state_of : HoldMachine → State
+state_of (Stream hold plan) = hold.state
+state_of (Plain hold plan) = hold.state
+state_of (Response hold plan) = hold.state
 
 abbrev pub kept_hold : Hold → Kept
-kept_hold h = record {
-  number = h.number;
-  owner = h.owner;
-  terms = record { kind = Stream; channels = h.channel ∷ []; link = h.link };
-  pending = h.pending.items;
-  position = Some h.position;
-  ended = h.ended;
-  want = h.want;
-  asked = h.asked;
-  late = h.late;
-}
+kept_hold h = record { number = h.number; owner = h.owner; state = state_of h.machine }
 
 abbrev pub number_of : Hold → ℕ
 number_of h = h.number
 
-abbrev pub with_staged : Kept → Option Staged → Kept
-with_staged k None = k
-with_staged k (Some NoRoom) = record k { ended = Some Overflow }
-with_staged k (Some Missed) = marked_kept true k
-with_staged k (Some (Append piece position)) = record k { pending = k.pending ++ piece ∷ []; position = Some position; ended = end_by piece; want = false; late = false }
+abbrev pub planned_if : State → Option Plan → State
+planned_if s None = s
+planned_if s (Some plan) = with_plan s plan
 
-abbrev pub appends : Option Staged → Bool
-appends None = false
-appends (Some NoRoom) = false
-appends (Some Missed) = false
-appends (Some (Append piece position)) = true
+abbrev pub plain_if : State → Option PlainPlan → State
+plain_if s None = s
+plain_if s (Some plan) = grown s plan.run
 
--- the hold once what is staged is done
-abbrev pub committed : Hold → Kept
-committed h = with_staged (kept_hold h) h.staged
+-- a hold once its plan is carried out
+abbrev pub staged : HoldMachine → State
+staged (Stream hold plan) = planned_if hold.state plan
+staged (Plain hold plan) = plain_if hold.state plan
+staged (Response hold plan) = planned_if hold.state plan
 
--- a piece that is staged has its room
-abbrev pub HasRoomFor : Hold → Option Staged → Type 0
-HasRoomFor h None = Unit {0}
-HasRoomFor h (Some NoRoom) = Unit {0}
-HasRoomFor h (Some Missed) = Unit {0}
-HasRoomFor h (Some (Append piece position)) = (0 < h.pending.spare) × (has_room h.pending.items piece ≡ true)
+abbrev pub grows_if : Option Plan → Bool
+grows_if None = false
+grows_if (Some plan) = grows plan
+
+abbrev pub plain_grows_if : Option PlainPlan → Bool
+plain_grows_if None = false
+plain_grows_if (Some plan) = not (length plan.run.pieces == 0)
+
+-- its log grows then
+abbrev pub appends : HoldMachine → Bool
+appends (Stream hold plan) = grows_if plan
+appends (Plain hold plan) = plain_grows_if plan
+appends (Response hold plan) = grows_if plan
+
+abbrev pub IsReadyIf : Machine → Option Plan → Type 0
+IsReadyIf m None = Unit {0}
+IsReadyIf m (Some plan) = IsPlanReady m plan
+
+abbrev pub IsPlainReadyIf : Machine → Option PlainPlan → Type 0
+IsPlainReadyIf m None = Unit {0}
+IsPlainReadyIf m (Some plan) = IsPlainReady m plan
+
+-- its plan can be carried out
+abbrev pub IsReadyHold : HoldMachine → Type 0
+IsReadyHold (Stream hold plan) = IsReadyIf hold plan
+IsReadyHold (Plain hold plan) = IsPlainReadyIf hold plan
+IsReadyHold (Response hold plan) = IsReadyIf hold plan
 
 abbrev pub HasRoom : Hold → Type 0
-HasRoom h = HasRoomFor h h.staged
+HasRoom h = IsReadyHold h.machine
 
--- what an item does to the hold is staged, and has its room
-pub record IsStaged (item : Item) (h : Hold) : Type 0 where
-  pub room : HasRoom h
-  pub effect : committed h ≡ served_kept item (kept_hold h)
-  pub told : appends h.staged ≡ grew_kept (kept_hold h) (served_kept item (kept_hold h))
+-- a hold once its plan is carried out, and its marks are settled by a window
+abbrev pub committed : List Item → Hold → Kept
+committed window h = record (kept_hold h) { state = settled_if (appends h.machine) window (staged h.machine) }
+
+-- the same for a hold with plans of one form
+pub record IsStreamStaged (item : Item) (window : List Item) (m : Machine) (plan : Option Plan) : Type 0 where
+  pub ready : IsReadyIf m plan
+  pub effect : planned_if m.state plan ≡ offered_if item window m.state
+  pub told : grows_if plan ≡ grew m.state (offered_if item window m.state)
+
+pub record IsPlainStaged (item : Item) (window : List Item) (m : Machine) (plan : Option PlainPlan) : Type 0 where
+  pub ready : IsPlainReadyIf m plan
+  pub effect : plain_if m.state plan ≡ offered_if item window m.state
+  pub told : plain_grows_if plan ≡ grew m.state (offered_if item window m.state)
+
+-- what an item does to a hold is planned, and can be carried out
+pub record IsStagedBy (item : Item) (window : List Item) (m : HoldMachine) : Type 0 where
+  pub ready : IsReadyHold m
+  pub effect : staged m ≡ offered_if item window (state_of m)
+  pub told : appends m ≡ grew (state_of m) (offered_if item window (state_of m))
+
+abbrev pub IsStaged : Item → List Item → Hold → Type 0
+IsStaged item window h = IsStagedBy item window h.machine
 
 -- the registry, as it is seen
-abbrev pub standing_now : ℕ → List Hold → Standing
-standing_now next holds = record { next = next; kept = map kept_hold holds }
+abbrev pub standing_now : List Item → ℕ → List Hold → Standing
+standing_now window next holds = record { window = window; next = next; kept = map kept_hold holds }
 
 -- numbers that rise, from one on
 abbrev pub Rises : ℕ → List ℕ → Type 0

@@ -5,10 +5,14 @@ use Rattle.gp_plain.specs.declared.event.Event.TheVariants.{Attach, Publish, Tak
 use Rattle.gp_plain.specs.declared.reply.Piece.{Piece}
 use Rattle.gp_plain.specs.declared.reply.EndCause.{EndCause}
 use Rattle.gp_plain.specs.declared.reply.Reply.{Reply}
-use Rattle.gp_plain.specs.declared.reply.Reply.TheVariants.{Attached, Full, Published, Taken, Done, Foreign, Unknown}
-use Rattle.gp_plain.specs.Holds.{begun}
-use Rattle.gp_plain.specs.Standing.{Kept, Standing, kept_of}
-use Rattle.gp_registry.specs.Keeps.{served_kept, grew_kept, taken_kept, after_take_kept}
+use Rattle.gp_plain.specs.declared.reply.Reply.TheVariants.{Attached, Full, Published, Repeat, Taken, Done, Foreign, Unknown}
+use Rattle.gp_plain.specs.declared.item.Item.{Item}
+use Rattle.gp_plain.specs.declared.event.HoldSpec.{HoldSpec}
+use Rattle.gp_plain.specs.Pieces.{id_or}
+use Rattle.gp_plain.specs.Follow.{is_repeat}
+use Rattle.gp_plain.specs.Holds.{begun_state}
+use Rattle.gp_plain.specs.Standing.{Kept, Standing}
+use Rattle.gp_registry.specs.Keeps.{pushed, served_kept, grew_kept, taken_kept, after_take_kept}
 
 -- the kept hold of a number
 abbrev pub found : ℕ → List Kept → Option Kept
@@ -29,8 +33,8 @@ instead zero change (k ∷ kept) = change k ++ kept
 instead (suc place) change (k ∷ kept) = k ∷ instead place change kept
 
 -- a Take that tells the end releases the hold
-abbrev pub kept_after_take : Kept → List Kept
-kept_after_take k = cond (is_some (taken_kept k).ended) [] (after_take_kept k ∷ [])
+abbrev pub kept_after_take : ℕ → Kept → List Kept
+kept_after_take now k = cond (is_some (taken_kept now k).ended) [] (after_take_kept now k ∷ [])
 
 abbrev pub kept_after_detach : Kept → List Kept
 kept_after_detach k = []
@@ -38,11 +42,21 @@ kept_after_detach k = []
 abbrev pub has_place_kept : List Kept → Bool
 has_place_kept kept = nat_lt (length kept) 4096
 
+-- a hold of the next number
+abbrev pub fresh_kept : Standing → ℕ → HoldSpec → Kept
+fresh_kept s who spec = record { number = s.next; owner = who; state = begun_state spec s.window }
+
+abbrev pub attached : Standing → Kept → Standing
+attached s k = record s { next = s.next + 1; kept = s.kept ++ k ∷ [] }
+
+abbrev pub published : Standing → Item → Standing
+published s item = record s { window = pushed s.window item; kept = map (served_kept item s.window (pushed s.window item)) s.kept }
+
 -- what an event does
 abbrev pub stepped : Standing → ℕ → Event → Standing
-stepped s who (Attach spec) = cond (has_place_kept s.kept) (record { next = s.next + 1; kept = s.kept ++ kept_of s.next (begun who spec) ∷ [] }) s
-stepped s who (Publish item) = record s { kept = map (served_kept item) s.kept }
-stepped s who (Take hold now) = record s { kept = replaced who hold kept_after_take s.kept }
+stepped s who (Attach spec) = cond (has_place_kept s.kept) (attached s (fresh_kept s who spec)) s
+stepped s who (Publish item) = cond (is_repeat s.window item) s (published s item)
+stepped s who (Take hold now) = record s { kept = replaced who hold (kept_after_take now) s.kept }
 stepped s who (Detach hold) = record s { kept = replaced who hold kept_after_detach s.kept }
 stepped s who (Page hold from to bytes then) = s
 stepped s who (PageFailed hold) = s
@@ -57,8 +71,9 @@ refused_or_kept who number (Some k) reply = cond (k.owner == who) (reply k) (For
 -- how it is answered
 abbrev pub answered : Standing → ℕ → Event → Reply
 answered s who (Attach spec) = cond (has_place_kept s.kept) (Attached s.next) (Full 4096)
-answered s who (Publish item) = Published (count_by (λ (k : Kept). grew_kept k (served_kept item k)) s.kept)
-answered s who (Take hold now) = refused_or_kept who hold (found hold s.kept) (λ (k : Kept). Taken (taken_kept k))
+answered s who (Publish item) =
+    cond (is_repeat s.window item) (Repeat (id_or item.id [])) (Published (count_by (λ (k : Kept). grew_kept k (served_kept item s.window (pushed s.window item) k)) s.kept))
+answered s who (Take hold now) = refused_or_kept who hold (found hold s.kept) (λ (k : Kept). Taken (taken_kept now k))
 answered s who (Detach hold) = refused_or_kept who hold (found hold s.kept) (λ (k : Kept). Done)
 answered s who (Page hold from to bytes then) = Done
 answered s who (PageFailed hold) = Done
@@ -69,12 +84,12 @@ answered s who (Leave hold channel) = Done
 -- what waits for a kept hold; nothing where it is not kept
 abbrev pub kept_pending : Option Kept → List Piece
 kept_pending None = []
-kept_pending (Some k) = k.pending
+kept_pending (Some k) = k.state.pending
 
 abbrev pub kept_position : Option Kept → Option (List ℕ)
 kept_position None = None
-kept_position (Some k) = k.position
+kept_position (Some k) = k.state.position
 
 abbrev pub kept_cause : Option Kept → Option EndCause
 kept_cause None = None
-kept_cause (Some k) = k.ended
+kept_cause (Some k) = k.state.ended

@@ -8,7 +8,7 @@ ghost use Rattle.gp_registry.specs.declared.hold.Hold.{Hold};
 
 use crate::hold::Hold;
 use gp_plain::Taken;
-use std::alloc::{AllocError, Global};
+use std::alloc::AllocError;
 
 /// The place of the hold of a number, by a binary search.
 pub fn place_of(holds: &[Hold], number: u64) -> Option<usize>
@@ -33,15 +33,15 @@ pub fn release_at(holds: &mut Vec<Hold>, place: usize)
 }
 
 /// Takes from the hold at a place, and releases it where that told its end. An error changes nothing.
-pub fn take_at(alloc: Global, holds: &mut Vec<Hold>, place: usize) -> Result<Taken, AllocError>
+pub fn take_at(holds: &mut Vec<Hold>, place: usize, now: u64) -> Result<Taken, AllocError>
     requires { place < length holds.old.items }
-    ensures gives { (d : Hold) → IfOk result (λ taken. taken ≡ taken_kept (kept_hold (slice_index_or holds.old.items place d))) }
-    ensures kept { OnOk result (map kept_hold holds.new.items ≡ instead place kept_after_take (map kept_hold holds.old.items)) }
+    ensures gives { (d : Hold) → IfOk result (λ taken. taken ≡ taken_kept now (kept_hold (slice_index_or holds.old.items place d))) }
+    ensures kept { OnOk result (map kept_hold holds.new.items ≡ instead place (kept_after_take now) (map kept_hold holds.old.items)) }
     ensures order { (next : ℕ) → IsInOrder next holds.old.items → IsInOrder next holds.new.items }
     ensures err { OnErr result (map kept_hold holds.new.items ≡ map kept_hold holds.old.items) }
 {
     let own = &mut holds[place];
-    let taken = own.take(alloc)?;
+    let taken = own.take(now)?;
     if taken.ended.is_some() {
         release_at(holds, place);
     }

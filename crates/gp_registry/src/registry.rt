@@ -1,25 +1,33 @@
-ghost use Rattle.std.specs.Prelude.{◌≡◌, ◌+◌, ◌^◌, ◌<◌, ◌≤◌, ◌==◌, ◌++◌, ◌∷◌, [], true, ℕ, List, Some, IsOk, vec_len, vec_capacity, IfOk, IfErr, OnOk, OnErr, MatchResult, All, map, length, option_map};
-ghost use Rattle.gp_plain.specs.Fit.{fits, fits_item, fits_spec, is_built_spec};
+ghost use Rattle.std.specs.Prelude.{◌≡◌, ◌+◌, ◌^◌, ◌<◌, ◌≤◌, ◌==◌, ◌++◌, ◌∷◌, [], true, false, ℕ, List, Some, IsOk, vec_len, vec_capacity, IfOk, IfErr, OnOk, OnErr, MatchResult, All, count_by, map, length, is_some, option_map};
+ghost use Rattle.gp_plain.specs.Fit.{fits, fits_spec, is_built_spec};
 ghost use Rattle.gp_plain.specs.History.{cause_at, held, kept_count, pending_at, position_at, reply};
 ghost use Rattle.gp_plain.specs.Standing.{StandsFor};
+ghost use Rattle.gp_plain.specs.Pieces.{id_or};
 ghost use Rattle.gp_plain.specs.declared.event.Entry.{Entry};
-ghost use Rattle.gp_registry.specs.Stages.{kept_hold};
+ghost use Rattle.gp_plain.specs.declared.reply.Reply.TheVariants.{Repeat};
+ghost use Rattle.gp_plain.specs.Follow.{is_repeat};
+ghost use Rattle.gp_plain.specs.Holds.{begun_state};
+ghost use Rattle.gp_registry.specs.Keeps.{pushed};
+ghost use Rattle.gp_registry.specs.Stages.{IsStaged, appends, committed, kept_hold, state_of};
 ghost use Rattle.gp_registry.specs.Steps.{answered, found, kept_pending, kept_position, kept_cause, stepped};
 
 use crate::hold::{Hold, commit_all, stage_all};
+use crate::machine::{HoldMachine, begun};
 use crate::order::{place_of, release_at, take_at};
-use gp_plain::{EndCause, Event, HoldSpec, Item, ItemId, Pending, Piece, Pieces, Reply};
+use gp_plain::{EndCause, Event, HoldSpec, Item, ItemId, Pieces, Reply};
+use gp_window::Window;
 use std::alloc::{AllocError, Global};
 use std::marker::Model;
 
 /// The holds that are kept, at most.
 const PLACES: usize = 4096;
 
-/// All holds. Contracts see what it keeps: the number of the next hold, and the kept holds in the order of their
-/// numbers.
+/// All holds. Contracts see what it keeps: the last items, the number of the next hold, and the kept holds in the order of
+/// their numbers.
 #[derive(Drop)]
 pub struct Registry {
     alloc: Global,
+    window: Window,
     next: u64,
     holds: Vec<Hold>,
 }
@@ -31,21 +39,65 @@ impl Model for Registry {
 
     ghost use Rattle.gp_registry.specs.Stages.{IsInOrder, standing_now};
 
-    ghost view = { λ r. standing_now r.next r.holds.items };
+    ghost view = { λ r. standing_now r.window.items r.next r.holds.items };
 
     ghost invariant = { λ r. IsInOrder r.next r.holds.items };
 }
 
-/// Room for one more hold, and for its opening.
-fn room_for_hold(alloc: Global, holds: &mut Vec<Hold>) -> Result<Pending, AllocError>
+/// The answer to a repeat, which has an id.
+fn repeated(item: Item) -> Reply
+    requires { is_some item.id ≡ true }
+    ensures { result ≡ Repeat (id_or item.id []) }
+{
+    let Item { id, .. } = item;
+    match id {
+        Some(id) => Reply::Repeat(id),
+        None => unreachable!(),
+    }
+}
+
+/// A hold that is made of a specification, and room for it.
+fn made(
+    alloc: Global,
+    holds: &mut Vec<Hold>,
+    spec: &HoldSpec,
+    window: &Window,
+) -> Result<HoldMachine, AllocError>
+    requires built { is_built_spec spec.now ≡ true }
+    requires fits { fits_spec spec.now ≡ true }
     ensures same { holds.new.items ≡ holds.old.items }
     ensures place { OnOk result (vec_len holds.new < vec_capacity holds.new) }
-    ensures pending { IfOk result (λ pending. (pending.items ≡ []) × (0 < pending.spare)) }
+    ensures made { IfOk result (λ machine. state_of machine ≡ begun_state spec.now window.now.items) }
 {
-    let mut pending = Pending::new(alloc);
-    pending.reserve(1)?;
     holds.reserve(1)?;
-    Ok(pending)
+    begun(alloc, spec, window)
+}
+
+/// Plans what an item does to each hold, and takes the memory for it in the window. Nothing else changes.
+fn plan_all(window: &mut Window, holds: &mut [Hold], item: &Item) -> Result<(), AllocError>
+    ensures window { window.new.items ≡ window.old.items }
+    ensures same { map kept_hold holds.new ≡ map kept_hold holds.old }
+    ensures staged { OnOk result ((window.new.reserved ≡ true) × All (IsStaged item.now window.old.items) holds.new) }
+{
+    window.reserve()?;
+    stage_all(holds, item, window)
+}
+
+/// Puts an item that is no repeat into the window, does in each hold what was planned by the window before it, and says
+/// how many logs grew. It takes no memory.
+fn carry_out(window: &mut Window, holds: &mut [Hold], item: Item) -> u32
+    requires reserved { window.old.reserved ≡ true }
+    requires fresh { is_repeat window.old.items item ≡ false }
+    requires staged { All (IsStaged item window.old.items) holds.old }
+    requires few { length holds.old ≤ 4096 }
+    ensures window { window.new.items ≡ pushed window.old.items item }
+    ensures kept { map kept_hold holds.new ≡ map (committed window.new.items) holds.old }
+    ensures grew { result ≡ count_by (λ hold. appends hold.machine) holds.old }
+{
+    match window.push(item) {
+        Ok(_) => commit_all(holds, window),
+        Err(_) => unreachable!(),
+    }
 }
 
 impl Registry {
@@ -55,6 +107,7 @@ impl Registry {
     {
         Registry {
             alloc,
+            window: Window::new(alloc),
             next: 0,
             holds: Vec::new(alloc),
         }
@@ -70,51 +123,36 @@ impl Registry {
         if self.holds.len() >= PLACES {
             return Ok(Reply::Full(4096));
         }
-        let mut pending = match room_for_hold(self.alloc, &mut self.holds) {
-            Ok(pending) => pending,
+        let machine = match made(self.alloc, &mut self.holds, &spec, &self.window) {
+            Ok(machine) => machine,
             Err(refused) => return Err((spec, refused)),
         };
-        match spec {
-            HoldSpec::Stream {
-                opening,
-                channel,
-                prev,
-                link,
-            } => {
-                let number = self.next;
-                pending.push(Piece::Opening(opening));
-                self.holds.push_reserved(Hold {
-                    number,
-                    owner: who,
-                    channel,
-                    link,
-                    pending,
-                    position: prev,
-                    ended: None,
-                    want: false,
-                    asked: false,
-                    late: false,
-                    staged: None,
-                });
-                self.next = number + 1;
-                Ok(Reply::Attached(number))
-            }
-            _ => unreachable!(),
+        let number = self.next;
+        self.holds.push_reserved(Hold {
+            number,
+            owner: who,
+            machine,
+        });
+        self.next = number + 1;
+        Ok(Reply::Attached(number))
+    }
+
+    fn publish(&mut self, item: Item) -> Result<Reply, (Item, AllocError)>
+        ensures ok { (who : ℕ) → IfOk result (λ r. (r ≡ answered self.old who (Event.Publish item)) × (self.new ≡ stepped self.old who (Event.Publish item))) }
+        ensures err { IfErr result (λ e. (e.0 ≡ item) × (self.new ≡ self.old)) }
+    {
+        if self.window.repeats(&item) {
+            return Ok(repeated(item));
+        }
+        let holds = self.holds.as_mut_slice();
+        match plan_all(&mut self.window, holds, &item) {
+            Ok(()) => Ok(Reply::Published(carry_out(&mut self.window, holds, item))),
+            Err(refused) => Err((item, refused)),
         }
     }
 
-    fn publish(&mut self, item: &Item) -> Result<Reply, AllocError>
-        ensures ok { (who : ℕ) → IfOk result (λ r. (r ≡ answered self.old who (Event.Publish item.now)) × (self.new ≡ stepped self.old who (Event.Publish item.now))) }
-        ensures err { OnErr result (self.new ≡ self.old) }
-    {
-        let holds = self.holds.as_mut_slice();
-        stage_all(self.alloc, holds, item)?;
-        let grew = commit_all(holds);
-        Ok(Reply::Published(grew))
-    }
-
-    fn take(&mut self, who: u64, hold: u64) -> Result<Reply, AllocError>
-        ensures ok { (now : ℕ) → IfOk result (λ r. (r ≡ answered self.old who (Event.Take hold now)) × (self.new ≡ stepped self.old who (Event.Take hold now))) }
+    fn take(&mut self, who: u64, hold: u64, now: u64) -> Result<Reply, AllocError>
+        ensures ok { IfOk result (λ r. (r ≡ answered self.old who (Event.Take hold now)) × (self.new ≡ stepped self.old who (Event.Take hold now))) }
         ensures err { OnErr result (self.new ≡ self.old) }
     {
         let Some(place) = place_of(self.holds.as_slice(), hold) else {
@@ -124,7 +162,7 @@ impl Registry {
         if owner != who {
             return Ok(Reply::Foreign(owner));
         }
-        let taken = take_at(self.alloc, &mut self.holds, place)?;
+        let taken = take_at(&mut self.holds, place, now)?;
         Ok(Reply::Taken(taken))
     }
 
@@ -154,11 +192,11 @@ impl Registry {
                 Ok(reply) => Ok(reply),
                 Err((spec, refused)) => Err((Event::Attach { spec }, refused)),
             },
-            Event::Publish { item } => match self.publish(&item) {
+            Event::Publish { item } => match self.publish(item) {
                 Ok(reply) => Ok(reply),
-                Err(refused) => Err((Event::Publish { item }, refused)),
+                Err((item, refused)) => Err((Event::Publish { item }, refused)),
             },
-            Event::Take { hold, now } => match self.take(who, hold) {
+            Event::Take { hold, now } => match self.take(who, hold, now) {
                 Ok(reply) => Ok(reply),
                 Err(refused) => Err((Event::Take { hold, now }, refused)),
             },
@@ -203,7 +241,7 @@ impl Registry {
         ensures { (past : List Entry) → StandsFor self.now past → IfOk result (λ pieces. pieces ≡ pending_at (held past) hold) }
     {
         match self.hold(hold) {
-            Some(hold) => hold.pending.copy(),
+            Some(hold) => hold.machine.pending(),
             None => Ok(Pieces::new(self.alloc)),
         }
     }
@@ -213,7 +251,7 @@ impl Registry {
         ensures { (past : List Entry) → StandsFor self.now past → option_map (λ id. id.now) result ≡ position_at (held past) hold }
     {
         match self.hold(hold) {
-            Some(hold) => Some(&hold.position),
+            Some(hold) => hold.machine.position(),
             None => None,
         }
     }
@@ -223,7 +261,7 @@ impl Registry {
         ensures { (past : List Entry) → StandsFor self.now past → result ≡ cause_at (held past) hold }
     {
         match self.hold(hold) {
-            Some(hold) => hold.ended,
+            Some(hold) => hold.machine.cause(),
             None => None,
         }
     }

@@ -12,5 +12,5 @@ pub loop-hold-preserved : goal.loop-hold-preserved
 loop-hold-preserved c = record {
   same = map-set_same kept_hold c.loop-hold.holds c.loop-hold.hold-index c.stage.new.self c.hold-item.result c.stage.ensures.same ∙ c.loop-hold.invariant.same;
   staged = let h : c.loop-hold.hold-index < length c.loop-hold.holds = omega arith in
-      AllWithin-more_set c.loop-hold.holds c.loop-hold.hold-index c.stage.new.self h (IsStaged c.args.item.now) c.loop-hold.invariant.staged c.in_ok-stage.ensures.staged;
+      AllWithin-more_set c.loop-hold.holds c.loop-hold.hold-index c.stage.new.self h (IsStaged c.args.item.now c.args.window.now.items) c.loop-hold.invariant.staged c.in_ok-stage.ensures.staged;
 }

@@ -19,15 +19,15 @@ returns-in_err-taken-clause-err c = on_err_given c.from_residual.result (map-set
 pub returns-clause-kept : goal.returns-clause-kept
 returns-clause-kept c =
     let old = c.index_mut-own.result.now in
-    let at = ap (λ (h : Hold). kept_after_take (kept_hold h)) (sym c.index_mut-own.ensures.value) in
+    let at = ap (λ (h : Hold). kept_after_take c.args.now (kept_hold h)) (sym c.index_mut-own.ensures.value) in
     elim c.if-is_some.branch [
       | then-is_some w ↦
           ap (λ v. map kept_hold v.items) w.holds-is
           ∙ w.release_at.ensures.kept
-          ∙ instead_other c.args.place kept_after_take c.args.holds.now.items old c.take.new.self c.requires (at ∙ told_end (kept_hold old) c.in_ok-taken.taken c.is_some.result c.in_ok-taken.ensures.gives c.is_some.ensures w.if-is_some.true)
+          ∙ instead_other c.args.place (kept_after_take c.args.now) c.args.holds.now.items old c.take.new.self c.requires (at ∙ told_end c.args.now (kept_hold old) c.in_ok-taken.taken c.is_some.result c.in_ok-taken.ensures.gives c.is_some.ensures w.if-is_some.true)
       | else-is_some w ↦
           ap (λ v. map kept_hold v.items) w.holds-is
-          ∙ instead_set c.args.place kept_after_take c.args.holds.now.items old c.take.new.self c.requires (at ∙ told_none (kept_hold old) (kept_hold c.take.new.self) c.in_ok-taken.taken c.is_some.result c.in_ok-taken.ensures.gives c.is_some.ensures w.if-is_some.false c.in_ok-taken.ensures.leaves)
+          ∙ instead_set c.args.place (kept_after_take c.args.now) c.args.holds.now.items old c.take.new.self c.requires (at ∙ told_none c.args.now (kept_hold old) (kept_hold c.take.new.self) c.in_ok-taken.taken c.is_some.result c.in_ok-taken.ensures.gives c.is_some.ensures w.if-is_some.false c.in_ok-taken.ensures.leaves)
     ]
 
 pub returns-clause-order : goal.returns-clause-order

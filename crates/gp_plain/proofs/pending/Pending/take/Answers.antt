@@ -13,8 +13,7 @@ invariant_of-self-2 c =
     let parts = sum_by-take-drop weight before count in
     let sums = ap (sum_by weight) rest in
     let lengths = ap length rest ∙ length-drop count before in (
-      omega (arith, lengths, c.moved_out.ensures.capacity, c.self.invariant.0),
-      omega (arith, parts, sums, c.measured-count.ensures.bytes, c.self.invariant.1),
-      omega (arith, c.self.invariant.2),
-      omega (arith, lengths, c.self.invariant.3),
+      omega (arith, parts, sums, c.measured-count.ensures.bytes, c.self.invariant.0),
+      omega (arith, c.self.invariant.1),
+      omega (arith, lengths, c.self.invariant.2),
     )

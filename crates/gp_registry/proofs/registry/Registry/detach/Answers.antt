@@ -11,19 +11,19 @@ use Rattle.gp_registry.proofs.registry.Registry.detach.Goals as goal
 pub returns-in_default : goal.returns-in_default
 returns-in_default c =
     let none = subst (λ (hs : List Hold). HasNone (map number_of hs) c.args.hold) c.as_slice.ensures.value c.in_default.ensures in
-    let says = unknown_says c.args.who c.args.hold c.self.inside.next (λ (k : Kept). Done) kept_after_detach c.self.inside.holds.items c.args.self.now c.self.view_is none in
+    let says = unknown_says c.self.inside.window.items c.args.who c.args.hold c.self.inside.next (λ (k : Kept). Done) kept_after_detach c.self.inside.holds.items c.args.self.now c.self.view_is none in
     (says.answers, says.leaves)
 
 pub returns-then-owner-who : goal.returns-then-owner-who
 returns-then-owner-who c =
     let place = subst (λ (hs : List Hold). IsPlaceOf (map number_of hs) c.args.hold c.in-Some.place) c.as_slice.ensures.value c.in-Some.ensures in
-    let says = foreign_says c.args.who c.args.hold c.self.inside.next c.in-Some.place (λ (k : Kept). Done) kept_after_detach c.self.inside.holds.items c.args.self.now c.index.result.now c.self.view_is place c.index.ensures c.if-owner-who.true in
+    let says = foreign_says c.self.inside.window.items c.args.who c.args.hold c.self.inside.next c.in-Some.place (λ (k : Kept). Done) kept_after_detach c.self.inside.holds.items c.args.self.now c.index.result.now c.self.view_is place c.index.ensures c.if-owner-who.true in
     (says.answers, says.leaves)
 
 pub returns : goal.returns
 returns c =
     let place = subst (λ (hs : List Hold). IsPlaceOf (map number_of hs) c.args.hold c.in-Some.place) c.as_slice.ensures.value c.in-Some.ensures in
-    let says = own_says c.args.who c.args.hold c.self.inside.next c.in-Some.place (λ (k : Kept). Done) kept_after_detach c.self.inside.holds.items c.release_at.new.holds.items c.args.self.now c.index.result.now c.self.view_is place c.index.ensures c.if-owner-who.false c.release_at.ensures.kept in
+    let says = own_says c.self.inside.window.items c.args.who c.args.hold c.self.inside.next c.in-Some.place (λ (k : Kept). Done) kept_after_detach c.self.inside.holds.items c.release_at.new.holds.items c.args.self.now c.index.result.now c.self.view_is place c.index.ensures c.if-owner-who.false c.release_at.ensures.kept in
     (says.answers, says.leaves)
 
 pub invariant_of-self : goal.invariant_of-self

@@ -11,7 +11,7 @@ use Rattle.gp_registry.proofs.registry.Registry.hold.Goals as goal
 pub returns-in-Some : goal.returns-in-Some
 returns-in-Some c =
     let place = subst (λ (hs : List Hold). IsPlaceOf (map number_of hs) c.args.number c.in-Some.place) c.as_slice.ensures.value c.in-Some.ensures in
-    found_place c.args.number c.self.inside.next c.in-Some.place c.self.inside.holds.items c.args.self.now c.index.result.now c.self.view_is place c.index.ensures
+    found_place c.self.inside.window.items c.args.number c.self.inside.next c.in-Some.place c.self.inside.holds.items c.args.self.now c.index.result.now c.self.view_is place c.index.ensures
 
 pub returns-in-None : goal.returns-in-None
 returns-in-None c =

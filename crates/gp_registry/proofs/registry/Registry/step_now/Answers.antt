@@ -6,7 +6,3 @@ use Rattle.gp_registry.proofs.registry.Registry.step_now.Goals as goal
 pub returns-in-Ok-publish-clause-ok : goal.returns-in-Ok-publish-clause-ok
 returns-in-Ok-publish-clause-ok c =
     subst (λ (e : Event). (c.in-Ok-publish.reply ≡ answered c.args.self.now c.args.who e) × (c.publish.new.self ≡ stepped c.args.self.now c.args.who e)) (sym c.in-Publish.is) (c.in-Ok-publish.ensures.ok c.args.who)
-
-pub returns-in-Ok-take-clause-ok : goal.returns-in-Ok-take-clause-ok
-returns-in-Ok-take-clause-ok c =
-    subst (λ (e : Event). (c.in-Ok-take.reply ≡ answered c.args.self.now c.args.who e) × (c.take.new.self ≡ stepped c.args.self.now c.args.who e)) (sym c.in-Take.is) (c.in-Ok-take.ensures.ok c.in-Take.now)

@@ -1,0 +1,108 @@
+-- The position of a hold is the one behind its log, and its terms are those that it was attached with.
+use Rattle.std.proofs.Common.{◌≡◌, ℕ, Bool, true, false, cond, not, nat_le, List, [], ◌∷◌, ◌++◌, fold, refl, sym, ap, ◌∙◌, append_assoc, Option, Some, None, is_some, option_map}
+use Rattle.std.specs.List.{AllByRecursion}
+use Rattle.std.specs.Option.{option_map_or}
+use Rattle.std.proofs.lemmas.List.{take-append-drop}
+use Rattle.std.proofs.lemmas.List.Sums.{fold-append}
+use Rattle.gp_plain.specs.declared.item.Item.{Item}
+use Rattle.gp_plain.specs.declared.event.Entry.{Entry}
+use Rattle.gp_plain.specs.declared.event.HoldSpec.{HoldSpec}
+use Rattle.gp_plain.specs.declared.event.HoldSpec.TheVariants.{Stream, Plain, Response, Socket}
+use Rattle.gp_plain.specs.declared.reply.Piece.{Piece}
+use Rattle.gp_plain.specs.declared.reply.Piece.TheVariants.{Opening}
+use Rattle.gp_plain.specs.declared.reply.EndCause.TheVariants.{Overflow, TimedOut, Retry}
+use Rattle.gp_plain.specs.Pieces.{moved, position_after, end_by, has_room, batch_count, batch, left}
+use Rattle.gp_plain.specs.Follow.{last_items}
+use Rattle.gp_plain.specs.Holds.{Terms, State, Held, terms_of, openings, start_of, position_of, is_live, added, run, marked, missed, gapped, can_ask, offered, shows_gap, run_for, settled, settled_if, grew, served, wants_more, opened, followers, caught_up, begun_state, begun, timed, asks, taken_of, rest_of, after_take, taken_from, let_go, log, position}
+use Rattle.gp_plain.specs.History.{served_by, held, published}
+use Rattle.gp_plain.proofs.Histories.{IsKept, in_each_history}
+
+-- a state of a hold that was attached with a specification, and from which pieces were taken
+pub record Fits (spec : HoldSpec) (taken : List Piece) (s : State) : Type 0 where
+  pub terms_are : s.terms ≡ terms_of spec
+  pub position_is : s.position ≡ position_of spec (taken ++ s.pending)
+
+position_by : (start : Option (List ℕ)) (ps : List Piece) (p : Piece)
+    → option_map (λ (at : List ℕ). position_after at (ps ++ p ∷ [])) start ≡ option_map (λ (at : List ℕ). moved at p) (option_map (λ (at : List ℕ). position_after at ps) start)
+position_by None ps p = refl
+position_by (Some at) ps p = ap Some (fold-append moved at ps (p ∷ []))
+
+pub position_push : (spec : HoldSpec) (ps : List Piece) (p : Piece) → position_of spec (ps ++ p ∷ []) ≡ option_map (λ (at : List ℕ). moved at p) (position_of spec ps)
+position_push spec ps p = position_by (start_of spec) ps p
+
+added_fits_by : (spec : HoldSpec) (taken : List Piece) (s : State) (p : Piece) (live room : Bool) → Fits spec taken s
+    → Fits spec taken (cond live (cond room (record s { pending = s.pending ++ p ∷ []; position = option_map (λ (at : List ℕ). moved at p) s.position; ended = end_by p; misses = 0 }) (record s { ended = Some Overflow })) s)
+added_fits_by spec taken s p false room f = f
+added_fits_by spec taken s p true false f = record { terms_are = f.terms_are; position_is = f.position_is }
+added_fits_by spec taken s p true true f = record {
+  terms_are = f.terms_are;
+  position_is = ap (option_map (λ (at : List ℕ). moved at p)) f.position_is ∙ sym (position_push spec (taken ++ s.pending) p) ∙ ap (position_of spec) (append_assoc taken s.pending (p ∷ []));
+}
+
+pub run_fits : (spec : HoldSpec) (taken : List Piece) (s : State) (ps : List Piece) → Fits spec taken s → Fits spec taken (run s ps)
+run_fits spec taken s [] f = f
+run_fits spec taken s (p ∷ ps) f = run_fits spec taken (added s p) ps (added_fits_by spec taken s p (is_live s) (has_room s.pending p) f)
+
+gapped_fits : (spec : HoldSpec) (taken : List Piece) (s : State) (ask : Bool) → Fits spec taken s → Fits spec taken (cond ask (marked s) (missed s))
+gapped_fits spec taken s true f = record { terms_are = f.terms_are; position_is = f.position_is }
+gapped_fits spec taken s false f = record { terms_are = f.terms_are; position_is = f.position_is }
+
+offered_fits : (spec : HoldSpec) (taken : List Piece) (s : State) (ps : List Piece) (gap : Bool) → Fits spec taken s → Fits spec taken (cond gap (gapped s) (run s ps))
+offered_fits spec taken s ps true f = gapped_fits spec taken s (can_ask s.terms) f
+offered_fits spec taken s ps false f = run_fits spec taken s ps f
+
+settled_fits : (spec : HoldSpec) (taken : List Piece) (window : List Item) (s : State) (went_on : Bool) → Fits spec taken s → Fits spec taken (settled_if went_on window s)
+settled_fits spec taken window s true f = record { terms_are = f.terms_are; position_is = f.position_is }
+settled_fits spec taken window s false f = f
+
+served_fits : (spec : HoldSpec) (taken : List Piece) (item : Item) (before after : List Item) (s : State) (live : Bool) → Fits spec taken s
+    → Fits spec taken (cond live (let next = offered item before s in settled_if (grew s next) after next) s)
+served_fits spec taken item before after s false f = f
+served_fits spec taken item before after s true f =
+    settled_fits spec taken after (offered item before s) (grew s (offered item before s))
+    (offered_fits spec taken s (run_for s.terms s.position item before) (shows_gap s.terms s.position item) f)
+
+opened_fits : (spec : HoldSpec) → Fits spec [] (opened spec)
+opened_fits (Stream opening channel prev link) = record { terms_are = refl; position_is = refl }
+opened_fits (Plain opening channels) = record { terms_are = refl; position_is = refl }
+opened_fits (Response channels None deadline again) = record { terms_are = refl; position_is = refl }
+opened_fits (Response channels (Some prev) deadline again) = record { terms_are = refl; position_is = refl }
+opened_fits Socket = record { terms_are = refl; position_is = refl }
+
+begun_fits : (spec : HoldSpec) (window : List Item) → Fits spec [] (begun_state spec window)
+begun_fits spec window =
+    let s = opened spec in
+    let f = run_fits spec [] s (option_map_or (λ (at : List ℕ). followers s.terms.kind s.terms.channels at window) s.position []) (opened_fits spec) in
+    record { terms_are = f.terms_are; position_is = f.position_is }
+
+timed_by : (spec : HoldSpec) (taken : List Piece) (s : State) (live due wants : Bool) → Fits spec taken s
+    → Fits spec taken (cond live (cond due (record s { ended = Some TimedOut }) (cond wants (record s { ended = Some Retry }) s)) s)
+timed_by spec taken s false due wants f = f
+timed_by spec taken s true true wants f = record { terms_are = f.terms_are; position_is = f.position_is }
+timed_by spec taken s true false true f = record { terms_are = f.terms_are; position_is = f.position_is }
+timed_by spec taken s true false false f = f
+
+pub timed_fits : (spec : HoldSpec) (taken : List Piece) (now : ℕ) (s : State) (deadline : Option ℕ) → Fits spec taken s → Fits spec taken (timed now deadline s)
+timed_fits spec taken now s None f = f
+timed_fits spec taken now s (Some deadline) f = timed_by spec taken s (is_live s) (nat_le deadline now) s.want f
+
+-- what is taken of pieces that wait, and what is left, are these
+pub taken_again : (taken pending : List Piece) → (taken ++ batch pending) ++ left pending ≡ taken ++ pending
+taken_again taken pending = append_assoc taken (batch pending) (left pending) ∙ ap (λ ps. taken ++ ps) (take-append-drop (batch_count pending) pending)
+
+rest_fits : (spec : HoldSpec) (taken : List Piece) (s : State) → Fits spec taken s → Fits spec (taken ++ batch s.pending) (rest_of s)
+rest_fits spec taken s f = record { terms_are = f.terms_are; position_is = f.position_is ∙ ap (position_of spec) (sym (taken_again taken s.pending)) }
+
+abbrev pub IsSound : List Item → Held → Type 0
+IsSound items h = Fits h.spec h.taken h.state
+
+pub sound : IsKept IsSound
+sound = record {
+  fresh = λ items who spec. begun_fits spec (last_items items);
+  serve = λ items item h f. served_fits h.spec h.taken item (last_items items) (last_items (items ++ item ∷ [])) h.state (is_live h.state) f;
+  take = λ items now h f. rest_fits h.spec h.taken (timed now h.state.terms.deadline h.state) (timed_fits h.spec h.taken now h.state h.state.terms.deadline f);
+  go = λ items h f. record { terms_are = f.terms_are; position_is = f.position_is };
+}
+
+pub are_sound : (entries : List Entry) → AllByRecursion (IsSound (published entries)) (held entries)
+are_sound entries = in_each_history IsSound entries sound

@@ -1,0 +1,44 @@
+-- What a plan of a plain hold is to a hold that may have ended.
+use Rattle.std.proofs.Common.{◌≡◌, ℕ, Bool, true, false, cond, not, ◌&&◌, ◌||◌, List, [], ◌∷◌, refl, sym, ap, ◌∙◌, Option, Some, None, is_some}
+use Rattle.std.specs.List.{list_any}
+use Rattle.gp_plain.specs.declared.item.Item.{Item}
+use Rattle.gp_plain.specs.Items.{is_on, is_same, is_id}
+use Rattle.gp_plain.specs.Follow.{is_repeat}
+use Rattle.gp_plain.specs.Holds.{State, is_live, offered, grew}
+use Rattle.gp_plain.specs.Plans.{Machine}
+use Rattle.gp_hold_stream.specs.declared.plain.PlainPlan.{PlainPlan}
+use Rattle.gp_hold_stream.specs.Plain.{IsPlainPlanned}
+use Rattle.gp_registry.specs.Keeps.{offered_if}
+use Rattle.gp_registry.specs.Stages.{IsPlainStaged}
+
+live_is : (item : Item) (window : List Item) (s : State) → s.ended ≡ None → offered item window s ≡ offered_if item window s
+live_is item window s n = sym (ap (λ e. cond (not (is_some e)) (offered item window s) s) n)
+
+pub plain_staged : (item : Item) (window : List Item) (m : Machine) (plan : PlainPlan) → m.state.ended ≡ None → IsPlainPlanned m (offered item window m.state) plan → IsPlainStaged item window m (Some plan)
+plain_staged item window m plan n p =
+    let same = live_is item window m.state n in
+    record { ready = p.ready; effect = p.effect ∙ same; told = p.told ∙ ap (grew m.state) same }
+
+-- a repeat has an id
+
+absurd_true : {A : Type 0} → false ≡ true → A
+absurd_true e = cc
+
+none_same : (other : Option (List ℕ)) → is_same None other ≡ false
+none_same None = refl
+none_same (Some id) = refl
+
+or_by : (a b : Bool) → b ≡ false → ((a && false) || b) ≡ false
+or_by true b e = e
+or_by false b e = e
+
+no_repeat : (xs : List Item) (channel : List ℕ) → list_any (λ (other : Item). is_on channel other && is_same None other.id) xs ≡ false
+no_repeat [] channel = refl
+no_repeat (x ∷ xs) channel = ap (λ b. (is_on channel x && b) || list_any (λ (other : Item). is_on channel other && is_same None other.id) xs) (none_same x.id) ∙ or_by (is_on channel x) (list_any (λ (other : Item). is_on channel other && is_same None other.id) xs) (no_repeat xs channel)
+
+some_by : (xs : List Item) (channel : List ℕ) (id : Option (List ℕ)) → list_any (λ (other : Item). is_on channel other && is_same id other.id) xs ≡ true → is_some id ≡ true
+some_by xs channel (Some id) e = refl
+some_by xs channel None e = absurd_true (sym (no_repeat xs channel) ∙ e)
+
+pub repeat_has_id : (xs : List Item) (item : Item) → is_repeat xs item ≡ true → is_some item.id ≡ true
+repeat_has_id xs item e = some_by xs item.channel item.id e

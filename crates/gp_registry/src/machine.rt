@@ -1,0 +1,207 @@
+ghost use Rattle.std.specs.Prelude.{◌≡◌, List, IfOk, OnOk, OnErr, option_map, true};
+ghost use Rattle.gp_plain.specs.Fit.{fits_spec, is_built_spec};
+ghost use Rattle.gp_plain.specs.Holds.{after_take, begun_state, settled_if, taken_of};
+ghost use Rattle.gp_plain.specs.Plans.{IsPlanReady, grows, with_plan};
+ghost use Rattle.gp_plain.specs.declared.item.Item.{Item};
+ghost use Rattle.gp_registry.specs.Stages.{IsPlainStaged, IsReadyHold, IsStagedBy, IsStreamStaged, appends, staged, state_of};
+
+use gp_hold_response::{ResponseHold, ResponsePlan};
+use gp_hold_stream::{PlainHold, PlainPlan, StreamHold, StreamPlan};
+use gp_plain::{EndCause, HoldSpec, Item, ItemId, Pieces, Taken};
+use gp_window::Window;
+use std::alloc::{AllocError, Global};
+
+/// A hold of any kind, and what an item that is served is to do to it.
+#[derive(Drop)]
+pub enum HoldMachine {
+    Stream {
+        hold: StreamHold,
+        plan: Option<StreamPlan>,
+    },
+    Plain {
+        hold: PlainHold,
+        plan: Option<PlainPlan>,
+    },
+    Response {
+        hold: ResponseHold,
+        plan: Option<ResponsePlan>,
+    },
+}
+
+/// A hold that is served nothing yet.
+pub fn begun(alloc: Global, spec: &HoldSpec, window: &Window) -> Result<HoldMachine, AllocError>
+    requires built { is_built_spec spec.now ≡ true }
+    requires fits { fits_spec spec.now ≡ true }
+    ensures { IfOk result (λ machine. state_of machine ≡ begun_state spec.now window.now.items) }
+{
+    match spec {
+        HoldSpec::Stream {
+            opening,
+            channel,
+            prev,
+            link,
+        } => Ok(HoldMachine::Stream {
+            hold: StreamHold::begin(alloc, channel, prev, *link, opening, window)?,
+            plan: None,
+        }),
+        HoldSpec::Plain { opening, channels } => Ok(HoldMachine::Plain {
+            hold: PlainHold::begin(alloc, channels, opening)?,
+            plan: None,
+        }),
+        HoldSpec::Response {
+            channels,
+            prev,
+            deadline,
+            again,
+        } => Ok(HoldMachine::Response {
+            hold: ResponseHold::begin(alloc, channels, prev.as_ref(), *deadline, *again, window)?,
+            plan: None,
+        }),
+        HoldSpec::Socket => unreachable!(),
+    }
+}
+
+fn plan_stream(
+    hold: &StreamHold,
+    item: &Item,
+    window: &Window,
+) -> Result<Option<StreamPlan>, AllocError>
+    ensures { IfOk result (IsStreamStaged item.now window.now.items hold.now) }
+{
+    match hold.cause() {
+        None => Ok(Some(hold.plan(item, window)?)),
+        Some(_) => Ok(None),
+    }
+}
+
+fn plan_plain(hold: &PlainHold, item: &Item) -> Result<Option<PlainPlan>, AllocError>
+    ensures { (window : List Item) → IfOk result (IsPlainStaged item.now window hold.now) }
+{
+    match hold.cause() {
+        None => Ok(Some(hold.plan(item)?)),
+        Some(_) => Ok(None),
+    }
+}
+
+fn plan_response(
+    hold: &ResponseHold,
+    item: &Item,
+    window: &Window,
+) -> Result<Option<ResponsePlan>, AllocError>
+    ensures { IfOk result (IsStreamStaged item.now window.now.items hold.now) }
+{
+    match hold.cause() {
+        None => Ok(Some(hold.offer(item, window)?)),
+        Some(_) => Ok(None),
+    }
+}
+
+/// Carries out a plan, and settles the marks of a hold that went on.
+fn commit_stream(hold: &mut StreamHold, plan: StreamPlan, window: &Window) -> bool
+    requires { IsPlanReady hold.old plan }
+    ensures state { hold.new.state ≡ settled_if (grows plan) window.now.items (with_plan hold.old.state plan) }
+    ensures grew { result ≡ grows plan }
+{
+    let grew = hold.commit(plan);
+    if grew {
+        hold.settle(window);
+    }
+    grew
+}
+
+/// Carries out a plan, and settles the mark of a hold that went on.
+fn commit_response(hold: &mut ResponseHold, plan: ResponsePlan, window: &Window) -> bool
+    requires { IsPlanReady hold.old plan }
+    ensures state { hold.new.state ≡ settled_if (grows plan) window.now.items (with_plan hold.old.state plan) }
+    ensures grew { result ≡ grows plan }
+{
+    let went_on = hold.commit(plan);
+    if went_on {
+        hold.settle(window);
+    }
+    went_on
+}
+
+impl HoldMachine {
+    /// Plans what an item does. The hold stays as it is.
+    pub fn stage(&mut self, item: &Item, window: &Window) -> Result<(), AllocError>
+        ensures same { state_of self.new ≡ state_of self.old }
+        ensures staged { OnOk result (IsStagedBy item.now window.now.items self.new) }
+    {
+        match self {
+            HoldMachine::Stream { hold, plan } => *plan = plan_stream(hold, item, window)?,
+            HoldMachine::Plain { hold, plan } => *plan = plan_plain(hold, item)?,
+            HoldMachine::Response { hold, plan } => *plan = plan_response(hold, item, window)?,
+        }
+        Ok(())
+    }
+
+    /// Carries out what is planned, settles the marks of a hold that went on by the window behind the item, and says
+    /// whether the log grew. It takes no memory.
+    pub fn commit(&mut self, window: &Window) -> bool
+        requires { IsReadyHold self.old }
+        ensures state { state_of self.new ≡ settled_if (appends self.old) window.now.items (staged self.old) }
+        ensures grew { result ≡ appends self.old }
+    {
+        match self {
+            HoldMachine::Stream { hold, plan } => match plan.take() {
+                Some(plan) => commit_stream(hold, plan, window),
+                None => false,
+            },
+            HoldMachine::Plain { hold, plan } => match plan.take() {
+                Some(plan) => hold.commit(plan),
+                None => false,
+            },
+            HoldMachine::Response { hold, plan } => match plan.take() {
+                Some(plan) => commit_response(hold, plan, window),
+                None => false,
+            },
+        }
+    }
+
+    /// Gives the next batch at a moment. An error changes nothing.
+    pub fn take(&mut self, now: u64) -> Result<Taken, AllocError>
+        ensures gives { IfOk result (λ taken. taken ≡ taken_of now (state_of self.old)) }
+        ensures leaves { OnOk result (state_of self.new ≡ after_take now (state_of self.old)) }
+        ensures err { OnErr result (state_of self.new ≡ state_of self.old) }
+    {
+        match self {
+            HoldMachine::Stream { hold, .. } => hold.take(),
+            HoldMachine::Plain { hold, .. } => hold.take(),
+            HoldMachine::Response { hold, .. } => hold.take(now),
+        }
+    }
+
+    /// Why it ended, and none while it is live.
+    pub fn cause(&self) -> Option<EndCause>
+        ensures { result ≡ (state_of self.now).ended }
+    {
+        match self {
+            HoldMachine::Stream { hold, .. } => hold.cause(),
+            HoldMachine::Plain { hold, .. } => hold.cause(),
+            HoldMachine::Response { hold, .. } => hold.cause(),
+        }
+    }
+
+    /// A copy of the pieces that wait.
+    pub fn pending(&self) -> Result<Pieces, AllocError>
+        ensures { IfOk result (λ pieces. pieces ≡ (state_of self.now).pending) }
+    {
+        match self {
+            HoldMachine::Stream { hold, .. } => hold.pending(),
+            HoldMachine::Plain { hold, .. } => hold.pending(),
+            HoldMachine::Response { hold, .. } => hold.pending(),
+        }
+    }
+
+    /// The position, where it has one.
+    pub fn position(&self) -> Option<&ItemId>
+        ensures { option_map (λ id. id.now) result ≡ (state_of self.now).position }
+    {
+        match self {
+            HoldMachine::Stream { hold, .. } => hold.position(),
+            HoldMachine::Plain { hold, .. } => hold.position(),
+            HoldMachine::Response { hold, .. } => hold.position(),
+        }
+    }
+}
