@@ -43,8 +43,8 @@ pub tally_none : (key : Item → ℕ) (b : ℕ) (q : Item → Bool) (xs : List I
 tally_none key b q [] f e = refl
 tally_none key b q (x ∷ xs) f e = none_by key b q x xs (q x) (eqb (key x) b) refl refl f e (tally_none key b q xs f)
 
-pub counted_none : (key : Item → ℕ) → IsTally key [] (replicate 65536 0)
-counted_none key = record { long = length-replicate {A = ℕ} 65536 0; count = λ b h. get_or-replicate 65536 b 0 0 h }
+pub counted_none : (key : Item → ℕ) → IsTally key [] (replicate 262144 0)
+counted_none key = record { long = length-replicate {A = ℕ} 262144 0; count = λ b h. get_or-replicate 262144 b 0 0 h }
 
 counts_by : (counts : List ℕ) (k b n m v : ℕ) (c : Bool) → eqb k b ≡ c → k < length counts → get_or counts b 0 ≡ m → get_or counts k 0 ≡ n → v ≡ n + 1 → get_or (set counts k v) b 0 ≡ m + cond c 1 0
 counts_by counts k b n m v true e h at here is = let same : b ≡ k = sym (eqb-true k b e) in
@@ -52,7 +52,7 @@ counts_by counts k b n m v true e h at here is = let same : b ≡ k = sym (eqb-t
 counts_by counts k b n m v false e h at here is = get_or-set_other counts k b v 0 (λ s. absurd_true (sym e ∙ eq-eqb k b (sym s))) ∙ at ∙ sym (add-zero m)
 
 -- one more item
-pub counted_more : (key : Item → ℕ) (xs : List Item) (x : Item) (counts now : List ℕ) → IsTally key xs counts → key x < 65536 → now ≡ set counts (key x) (get_or counts (key x) 0 + 1) → IsTally key (xs ++ x ∷ []) now
+pub counted_more : (key : Item → ℕ) (xs : List Item) (x : Item) (counts now : List ℕ) → IsTally key xs counts → key x < 262144 → now ≡ set counts (key x) (get_or counts (key x) 0 + 1) → IsTally key (xs ++ x ∷ []) now
 counted_more key xs x counts now t h is = record {
   long = ap length is ∙ length-set counts (key x) (get_or counts (key x) 0 + 1) ∙ t.long;
   count = λ b within.
@@ -74,7 +74,7 @@ less_by counts k b n m v true e h at here is =
 less_by counts k b n m v false e h at here is = get_or-set_other counts k b v 0 (λ s. absurd_true (sym e ∙ eq-eqb k b (sym s))) ∙ at ∙ zero_more m
 
 -- the first item goes
-pub counted_less : (key : Item → ℕ) (x : Item) (xs : List Item) (counts now : List ℕ) → IsTally key (x ∷ xs) counts → key x < 65536 → now ≡ set counts (key x) (get_or counts (key x) 0 - 1) → IsTally key xs now
+pub counted_less : (key : Item → ℕ) (x : Item) (xs : List Item) (counts now : List ℕ) → IsTally key (x ∷ xs) counts → key x < 262144 → now ≡ set counts (key x) (get_or counts (key x) 0 - 1) → IsTally key xs now
 counted_less key x xs counts now t h is = record {
   long = ap length is ∙ length-set counts (key x) (get_or counts (key x) 0 - 1) ∙ t.long;
   count = λ b within.
@@ -88,7 +88,7 @@ some_by m n true c e = omega (arith, e)
 some_by m n false c e = absurd_true c
 
 -- the first item is counted
-pub counted_some : (key : Item → ℕ) (x : Item) (xs : List Item) (counts : List ℕ) → IsTally key (x ∷ xs) counts → key x < 65536 → 0 < get_or counts (key x) 0
+pub counted_some : (key : Item → ℕ) (x : Item) (xs : List Item) (counts : List ℕ) → IsTally key (x ∷ xs) counts → key x < 262144 → 0 < get_or counts (key x) 0
 counted_some key x xs counts t h = some_by (tally key (key x) xs) (get_or counts (key x) 0) (eqb (key x) (key x)) (eq-eqb (key x) (key x) refl) (t.count (key x) h)
 
 -- what a full ring lets go
@@ -129,16 +129,16 @@ gone_none xs x e =
     let none : length (xs ++ x ∷ []) - 4096 ≡ 0 = omega (arith, room, length-append xs (x ∷ [])) in
     (ap (λ n. drop n (xs ++ x ∷ [])) none, omega (arith, room, length-append xs (x ∷ [])))
 
-pub count_few : (key : Item → ℕ) (xs : List Item) (counts : List ℕ) (b : ℕ) → IsTally key xs counts → b < 65536 → length xs ≤ 4096 → get_or counts b 0 ≤ 4096
+pub count_few : (key : Item → ℕ) (xs : List Item) (counts : List ℕ) (b : ℕ) → IsTally key xs counts → b < 262144 → length xs ≤ 4096 → get_or counts b 0 ≤ 4096
 count_few key xs counts b t h few = omega (arith, t.count b h, tally_few key b xs, few)
 
 -- the same at a bucket that was computed
 
-pub counted_at : (key : Item → ℕ) (xs : List Item) (x : Item) (counts now : List ℕ) (b : ℕ) → IsTally key xs counts → b ≡ key x → b < 65536 → now ≡ set counts b (get_or counts b 0 + 1) → IsTally key (xs ++ x ∷ []) now
-counted_at key xs x counts now b t is h e = counted_more key xs x counts now t (subst (λ k. k < 65536) is h) (e ∙ ap (λ k. set counts k (get_or counts k 0 + 1)) is)
+pub counted_at : (key : Item → ℕ) (xs : List Item) (x : Item) (counts now : List ℕ) (b : ℕ) → IsTally key xs counts → b ≡ key x → b < 262144 → now ≡ set counts b (get_or counts b 0 + 1) → IsTally key (xs ++ x ∷ []) now
+counted_at key xs x counts now b t is h e = counted_more key xs x counts now t (subst (λ k. k < 262144) is h) (e ∙ ap (λ k. set counts k (get_or counts k 0 + 1)) is)
 
-pub less_at : (key : Item → ℕ) (x : Item) (xs : List Item) (counts now : List ℕ) (b : ℕ) → IsTally key (x ∷ xs) counts → b ≡ key x → b < 65536 → now ≡ set counts b (get_or counts b 0 - 1) → IsTally key xs now
-less_at key x xs counts now b t is h e = counted_less key x xs counts now t (subst (λ k. k < 65536) is h) (e ∙ ap (λ k. set counts k (get_or counts k 0 - 1)) is)
+pub less_at : (key : Item → ℕ) (x : Item) (xs : List Item) (counts now : List ℕ) (b : ℕ) → IsTally key (x ∷ xs) counts → b ≡ key x → b < 262144 → now ≡ set counts b (get_or counts b 0 - 1) → IsTally key xs now
+less_at key x xs counts now b t is h e = counted_less key x xs counts now t (subst (λ k. k < 262144) is h) (e ∙ ap (λ k. set counts k (get_or counts k 0 - 1)) is)
 
-pub some_at : (key : Item → ℕ) (x : Item) (xs : List Item) (counts : List ℕ) (b : ℕ) → IsTally key (x ∷ xs) counts → b ≡ key x → b < 65536 → 0 < get_or counts b 0
-some_at key x xs counts b t is h = subst (λ k. 0 < get_or counts k 0) (sym is) (counted_some key x xs counts t (subst (λ k. k < 65536) is h))
+pub some_at : (key : Item → ℕ) (x : Item) (xs : List Item) (counts : List ℕ) (b : ℕ) → IsTally key (x ∷ xs) counts → b ≡ key x → b < 262144 → 0 < get_or counts b 0
+some_at key x xs counts b t is h = subst (λ k. 0 < get_or counts k 0) (sym is) (counted_some key x xs counts t (subst (λ k. k < 262144) is h))
