@@ -8,3 +8,6 @@
 mod response;
 
 pub use response::{ResponseHold, ResponsePlan};
+
+#[cfg(test)]
+mod tests;

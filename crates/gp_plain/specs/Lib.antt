@@ -12,3 +12,4 @@ pub mod History
 pub mod Standing
 pub mod Chain
 pub mod Order
+pub mod Others

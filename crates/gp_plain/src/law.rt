@@ -1,6 +1,7 @@
 //! The laws of the definitions, each the contract of a call.
 ghost use Rattle.gp_plain.specs.Chain.{ChainLaw, WindowLaw};
 ghost use Rattle.gp_plain.specs.Order.{OrderLaw};
+ghost use Rattle.gp_plain.specs.Others.{OthersLaw, OwnersLaw, ReleasedLaw};
 
 /// The chain law. In every history, whatever the order of its entries: for every chain that covers a reliable
 /// stream hold, the text of the hold's log is its opening and then the contents of the chain's items between the
@@ -22,4 +23,21 @@ pub fn window_law()
 /// other attaches may stand anywhere behind the first.
 pub fn order_law()
     ensures { OrderLaw }
+{}
+
+/// The law of others. Entries of others change neither what was taken of a hold, nor the positions that it was told to
+/// recover from, nor the end that it was told, nor whether it was let go.
+pub fn others_law()
+    ensures { OthersLaw }
+{}
+
+/// The law of owners. Entries of others leave the list of all holds of an owner, with what the law of others says of
+/// each.
+pub fn owners_law()
+    ensures { OwnersLaw }
+{}
+
+/// The law of released holds. Nothing changes anything of a hold once it was let go.
+pub fn released_law()
+    ensures { ReleasedLaw }
 {}

@@ -1,0 +1,220 @@
+-- What a call for a hold of one's own does.
+use Rattle.std.proofs.Common.{◌≡◌, ℕ, zero, suc, ◌+◌, ◌≤◌, ◌==◌, ◌||◌, Bool, true, false, cond, not, List, [], ◌∷◌, ◌++◌, length, filter, arith, refl, sym, ap, ◌∙◌, subst, append_assoc, append-nil, eq-eqb, slice_get, Option, Some, None, is_some, option_map}
+use Rattle.std.specs.Prelude.{option_to_list}
+use Rattle.std.specs.List.{All}
+use Rattle.std.proofs.lemmas.List.Sums.{fold-append}
+use Rattle.std.proofs.lemmas.List.Elements.{filter-append, All-head, All-tail}
+use Rattle.gp_plain.specs.declared.event.Entry.{Entry}
+use Rattle.gp_plain.specs.declared.event.Event.{Event}
+use Rattle.gp_plain.specs.declared.event.Event.TheVariants.{Attach, Take, Detach}
+use Rattle.gp_plain.specs.declared.event.HoldSpec.{HoldSpec}
+use Rattle.gp_plain.specs.declared.reply.Reply.{Reply}
+use Rattle.gp_plain.specs.declared.reply.Reply.TheVariants as reply
+use Rattle.gp_plain.specs.declared.reply.Taken.{Taken}
+use Rattle.gp_plain.specs.Follow.{last_items}
+use Rattle.gp_plain.specs.Holds.{Held, begun, taken_of, taken_from, let_go}
+use Rattle.gp_plain.specs.History as history
+use Rattle.gp_plain.specs.History.{Past, has_place, if_kept, kept_at, refused_or, changed_if, changed, with_hold, after_event, after, nothing, past_of, held}
+use Rattle.gp_plain.specs.Others.{Share, share_of, share_at, shares_from, shares, IsOfAnother}
+use Rattle.gp_plain.proofs.OthersLaw.{differs, others_law_holds, owners_law_holds}
+use Rattle.gp_turn.proofs.Owners.{others_by_number}
+use Rattle.gp_hub.specs.Passes.{HubView, GoesOnFrom, IsSame, entry_of, who_of}
+use Rattle.gp_hub.specs.Calls.{HasCalled}
+use Rattle.gp_hub.specs.Own.{Keeps, HasMade, HasNewHold, HasAttached, HasTaken, HasDetached, fresh_share, share_with, attach_reply}
+
+same_some : {A : Type 0} {x y : A} → Some x ≡ Some y → x ≡ y
+same_some e = cc
+
+no_some : {A : Type 0} {x : A} → None ≡ Some x → ⊥
+no_some e = cc
+
+-- the entries that are the pass's own
+
+own_one : (who : ℕ) (event : Event) → filter (λ (e : Entry). e.who == who) (entry_of who event ∷ []) ≡ entry_of who event ∷ []
+own_one who event = ap (λ b. cond b (entry_of who event ∷ []) []) (eq-eqb who who refl)
+
+none_own : (who : ℕ) (others : List Entry) → All (IsOfAnother who) others → filter (λ (e : Entry). e.who == who) others ≡ []
+none_own who [] all = refl
+none_own who (e ∷ es) all =
+    ap (λ b. cond b (e ∷ filter (λ (e : Entry). e.who == who) es) (filter (λ (e : Entry). e.who == who) es)) (differs e.who who (All-head (IsOfAnother who) e es all))
+    ∙ none_own who es (All-tail (IsOfAnother who) e es all)
+
+own_more : (who : ℕ) (event : Event) (seen others : List Entry) → All (IsOfAnother who) others
+    → filter (λ (e : Entry). e.who == who) ((seen ++ others) ++ entry_of who event ∷ []) ≡ filter (λ (e : Entry). e.who == who) seen ++ entry_of who event ∷ []
+own_more who event seen others all =
+    let own : Entry → Bool = λ (e : Entry). e.who == who in
+    filter-append own (seen ++ others) (entry_of who event ∷ [])
+    ∙ ap (λ xs. xs ++ filter own (entry_of who event ∷ [])) (filter-append own seen others ∙ ap (λ xs. filter own seen ++ xs) (none_own who others all) ∙ append-nil (filter own seen))
+    ∙ ap (λ xs. filter own seen ++ xs) (own_one who event)
+
+others_of : (p : HubView) (before : List Entry) (c : GoesOnFrom p before) → 1 ≤ p.spare → All (IsOfAnother p.number) c.more
+others_of p before c some = others_by_number who_of p c.more some c.others
+
+pub made : (p q : HubView) (event : Event) (r : Reply) → IsSame p q → HasCalled p q event r → HasMade p q event r
+made p q event r same c =
+    let seen : q.seen ≡ (p.seen ++ c.goes_on.more) ++ entry_of p.number event ∷ [] = c.seen ∙ ap (λ xs. xs ++ entry_of p.number event ∷ []) c.goes_on.is in
+    record {
+      called = c;
+      mine = ap (λ n. filter (λ (e : Entry). e.who == n) q.seen) same.number ∙ ap (filter (λ (e : Entry). e.who == p.number)) seen
+          ∙ own_more p.number event p.seen c.goes_on.more (others_of p c.before c.goes_on same.some);
+      grown = (c.goes_on.more ++ entry_of p.number event ∷ [], sym (seen ∙ append_assoc p.seen c.goes_on.more (entry_of p.number event ∷ [])));
+    }
+
+-- a kept hold of the pass when the call is served
+
+after_last : (before : List Entry) (who : ℕ) (event : Event) → past_of (before ++ entry_of who event ∷ []) ≡ after_event (past_of before) who event
+after_last before who event = fold-append after nothing before (entry_of who event ∷ [])
+
+record Stands (holds : List Held) (hold : ℕ) (s : Share) : Type 0 where
+  h : Held
+  there : slice_get holds hold ≡ Some h
+  is : share_of h ≡ s
+
+stands_by : (holds : List Held) (hold : ℕ) (s : Share) (found : Option Held) → slice_get holds hold ≡ found → option_map share_of found ≡ Some s → Stands holds hold s
+stands_by holds hold s None at is = absurd (no_some is)
+stands_by holds hold s (Some h) at is = record { h = h; there = at; is = same_some is }
+
+stands : (p : HubView) (before : List Entry) (hold : ℕ) (s : Share) → GoesOnFrom p before → 1 ≤ p.spare → share_at (held p.seen) hold ≡ Some s → s.owner ≡ p.number → Stands (held before) hold s
+stands p before hold s c some there own =
+    let others : All (IsOfAnother s.owner) c.more = subst (λ n. All (IsOfAnother n) c.more) (sym own) (others_of p before c some) in
+    let at : share_at (held (p.seen ++ c.more)) hold ≡ Some s = others_law_holds p.seen c.more hold s there others in
+    stands_by (held before) hold s (slice_get (held before) hold) refl (subst (λ (es : List Entry). share_at (held es) hold ≡ Some s) (sym c.is) at)
+
+-- what an event on it answers and changes
+kept_reply : (holds : List Held) (who hold : ℕ) (h : Held) (answer : Held → Reply) → slice_get holds hold ≡ Some h → h.released ≡ false → h.owner ≡ who
+    → refused_or who hold (kept_at holds hold) answer ≡ answer h
+kept_reply holds who hold h answer there kept own =
+    let at : kept_at holds hold ≡ Some h = ap if_kept there ∙ ap (λ b. cond b None (Some h)) kept in
+    ap (λ (o : Option Held). refused_or who hold o answer) at ∙ ap (λ b. cond b (answer h) (reply.Foreign h.owner)) (eq-eqb h.owner who own)
+
+own_changed : (who : ℕ) (f : Held → Held) (h : Held) → h.released ≡ false → h.owner ≡ who → changed_if who f h ≡ f h
+own_changed who f h kept own = ap (λ b. cond (not b) (cond (h.owner == who) (f h) h) h) kept ∙ ap (λ b. cond b (f h) h) (eq-eqb h.owner who own)
+
+changed_at : (who : ℕ) (f : Held → Held) (holds : List Held) (hold : ℕ) (h : Held) → slice_get holds hold ≡ Some h → h.released ≡ false → h.owner ≡ who
+    → slice_get (changed who hold f holds) hold ≡ Some (f h)
+changed_at who f [] hold h there kept own = absurd (no_some there)
+changed_at who f (x ∷ xs) zero h there kept own = ap Some (ap (changed_if who f) (same_some there) ∙ own_changed who f h kept own)
+changed_at who f (x ∷ xs) (suc hold) h there kept own = changed_at who f xs hold h there kept own
+
+record OwnCall (q : HubView) (hold : ℕ) (r : Reply) (answer : Held → Reply) (f : Held → Held) (s : Share) : Type 0 where
+  h : Held
+  is : share_of h ≡ s
+  replied : r ≡ answer h
+  now : slice_get (held q.seen) hold ≡ Some (f h)
+
+own_call : (p q : HubView) (hold : ℕ) (event : Event) (r : Reply) (answer : Held → Reply) (f : Held → Held) (k : Keeps p hold) → IsSame p q → HasCalled p q event r
+    → ((past : Past) → history.answer past p.number event ≡ refused_or p.number hold (kept_at past.holds hold) answer)
+    → ((past : Past) → (after_event past p.number event).holds ≡ changed p.number hold f past.holds)
+    → OwnCall q hold r answer f k.share
+own_call p q hold event r answer f k same c answers changes =
+    let st : Stands (held c.before) hold k.share = stands p c.before hold k.share c.goes_on same.some k.there k.own in
+    let own : st.h.owner ≡ p.number = ap (λ (s : Share). s.owner) st.is ∙ k.own in
+    let kept : st.h.released ≡ false = ap (λ (s : Share). s.released) st.is ∙ k.kept in
+    let holds : held q.seen ≡ changed p.number hold f (held c.before) =
+    ap held c.seen ∙ ap (λ (past : Past). past.holds) (after_last c.before p.number event) ∙ changes (past_of c.before) in
+    record {
+      h = st.h;
+      is = st.is;
+      replied = c.reply_is ∙ answers (past_of c.before) ∙ kept_reply (held c.before) p.number hold st.h answer st.there kept own;
+      now = ap (λ (hs : List Held). slice_get hs hold) holds ∙ changed_at p.number f (held c.before) hold st.h st.there kept own;
+    }
+
+-- a Take
+
+same_taken : {a b : Taken} → reply.Taken a ≡ reply.Taken b → a ≡ b
+same_taken e = cc
+
+take_call : (p q : HubView) (hold now : ℕ) (r : Reply) (k : Keeps p hold) → IsSame p q → HasCalled p q (Take hold now) r
+    → OwnCall q hold r (λ (h : Held). reply.Taken (taken_of now h.state)) (taken_from now) k.share
+take_call p q hold now r k same c =
+    own_call p q hold (Take hold now) r (λ (h : Held). reply.Taken (taken_of now h.state)) (taken_from now) k same c (λ past. refl) (λ past. refl)
+
+pub take_answers : (p q : HubView) (hold now : ℕ) (r : Reply) → Keeps p hold → IsSame p q → HasCalled p q (Take hold now) r → (t : Taken) × (r ≡ reply.Taken t)
+take_answers p q hold now r k same c = let o = take_call p q hold now r k same c in (taken_of now o.h.state, o.replied)
+
+share_after : (h : Held) (t : Taken) (s : Share) → share_of h ≡ s → s.released ≡ false
+    → (let now : Share = record { owner = h.owner; spec = h.spec; taken = h.taken ++ t.pieces; recovers = h.recovers ++ option_to_list t.recover; told = t.ended; released = h.released || is_some t.ended } in now) ≡ share_with s t
+share_after h t s is kept =
+    let gone : h.released ≡ false = ap (λ (x : Share). x.released) is ∙ kept in
+    ap (λ b. let now : Share = record { owner = h.owner; spec = h.spec; taken = h.taken ++ t.pieces; recovers = h.recovers ++ option_to_list t.recover; told = t.ended; released = b || is_some t.ended } in now) gone
+    ∙ ap (λ (x : Share). share_with x t) is
+
+pub took : (p q : HubView) (hold now : ℕ) (t : Taken) → Keeps p hold → IsSame p q → HasCalled p q (Take hold now) (reply.Taken t) → HasTaken p q hold now t
+took p q hold now t k same c =
+    let o = take_call p q hold now (reply.Taken t) k same c in
+    let gave : t ≡ taken_of now o.h.state = same_taken o.replied in
+    let share : share_at (held q.seen) hold ≡ Some (share_with k.share t) =
+    ap (option_map share_of) o.now ∙ ap Some (share_after o.h (taken_of now o.h.state) k.share o.is k.kept ∙ ap (share_with k.share) (sym gave)) in
+    record {
+      made = made p q (Take hold now) (reply.Taken t) same c;
+      share = λ before is. share ∙ ap (λ (s : Share). Some (share_with s t)) (same_some (sym k.there ∙ is));
+      keeps = λ e. record { share = share_with k.share t; there = share; own = k.own ∙ sym same.number; kept = ap is_some e };
+    }
+
+-- a Detach
+
+pub detached : (p q : HubView) (hold : ℕ) (r : Reply) → Keeps p hold → IsSame p q → HasCalled p q (Detach hold) r → HasDetached p q hold
+detached p q hold r k same c =
+    let o = own_call p q hold (Detach hold) r (λ (h : Held). reply.Done) let_go k same c (λ past. refl) (λ past. refl) in
+    let gone : Share → Share = λ (s : Share). record s { released = true } in
+    let share : share_at (held q.seen) hold ≡ Some (gone k.share) = ap (option_map share_of) o.now ∙ ap (λ (s : Share). Some (gone s)) o.is in
+    record {
+      made = made p q (Detach hold) reply.Done same (subst (HasCalled p q (Detach hold)) o.replied c);
+      share = λ before is. share ∙ ap (λ (s : Share). Some (gone s)) (same_some (sym k.there ∙ is));
+    }
+
+-- an Attach
+
+attach_by : (number : ℕ) (r : Reply) (place : Bool) → r ≡ cond place (reply.Attached number) (reply.Full 4096) → (hold : Option ℕ) × (r ≡ attach_reply hold)
+attach_by number r true e = (Some number, e)
+attach_by number r false e = (None, e)
+
+pub attach_answers : (p q : HubView) (spec : HoldSpec) (r : Reply) → HasCalled p q (Attach spec) r → (hold : Option ℕ) × (r ≡ attach_reply hold)
+attach_answers p q spec r c = attach_by (length (held c.before)) r (has_place (held c.before)) c.reply_is
+
+new_at : (holds : List Held) (h : Held) → slice_get (holds ++ h ∷ []) (length holds) ≡ Some h
+new_at [] h = refl
+new_at (x ∷ xs) h = new_at xs h
+
+more_if : (b : Bool) (x y : ℕ × Share) (rest : List (ℕ × Share)) → cond b (x ∷ (rest ++ y ∷ [])) (rest ++ y ∷ []) ≡ cond b (x ∷ rest) rest ++ y ∷ []
+more_if true x y rest = refl
+more_if false x y rest = refl
+
+new_shares : (owner k : ℕ) (holds : List Held) (h : Held) → h.owner ≡ owner → shares_from owner k (holds ++ h ∷ []) ≡ shares_from owner k holds ++ (k + length holds, share_of h) ∷ []
+new_shares owner k [] h own =
+    let here : k ≡ k + 0 = omega arith in
+    ap (λ b. cond b ((k, share_of h) ∷ []) []) (eq-eqb h.owner owner own) ∙ ap (λ n. (n, share_of h) ∷ []) here
+new_shares owner k (x ∷ xs) h own =
+    let rest = shares_from owner (k + 1) xs in
+    let there : (k + 1) + length xs ≡ k + suc (length xs) = omega arith in
+    ap (λ ys. cond (x.owner == owner) ((k, share_of x) ∷ ys) ys) (new_shares owner (k + 1) xs h own)
+    ∙ more_if (x.owner == owner) (k, share_of x) ((k + 1) + length xs, share_of h) rest
+    ∙ ap (λ n. cond (x.owner == owner) ((k, share_of x) ∷ rest) rest ++ (n, share_of h) ∷ []) there
+
+placed : (past : Past) (h : Held) (hold : ℕ) (place : Bool) → reply.Attached hold ≡ cond place (reply.Attached (length past.holds)) (reply.Full 4096)
+    → (hold ≡ length past.holds) × ((cond place (with_hold past h) past).holds ≡ past.holds ++ h ∷ [])
+placed past h hold true e = (cc, refl)
+placed past h hold false e = absurd cc
+
+new_hold : (p q : HubView) (spec : HoldSpec) (hold : ℕ) → IsSame p q → HasCalled p q (Attach spec) (reply.Attached hold) → HasNewHold p q spec hold
+new_hold p q spec hold same c =
+    let past = past_of c.before in
+    let h : Held = begun p.number spec (last_items past.published) in
+    let at = placed past h hold (has_place past.holds) c.reply_is in
+    let holds : held q.seen ≡ past.holds ++ h ∷ [] = ap held c.seen ∙ ap (λ (x : Past). x.holds) (after_last c.before p.number (Attach spec)) ∙ at.1 in
+    let share : share_at (held q.seen) hold ≡ Some (fresh_share p.number spec) =
+    ap (λ (hs : List Held). share_at hs hold) holds ∙ ap (λ n. share_at (past.holds ++ h ∷ []) n) at.0 ∙ ap (option_map share_of) (new_at past.holds h) in
+    let number : 0 + length past.holds ≡ hold = omega (arith, at.0) in
+    let mine_is : shares p.number c.before ≡ shares p.number p.seen =
+    ap (shares p.number) c.goes_on.is ∙ owners_law_holds p.seen c.goes_on.more p.number (others_of p c.before c.goes_on same.some) in
+    record {
+      made = made p q (Attach spec) (reply.Attached hold) same c;
+      share = share;
+      keeps = record { share = fresh_share p.number spec; there = share; own = sym same.number; kept = refl };
+      shares = ap (shares_from p.number 0) holds ∙ new_shares p.number 0 past.holds h refl ∙ ap (λ n. shares p.number c.before ++ (n, fresh_share p.number spec) ∷ []) number
+          ∙ ap (λ xs. xs ++ (hold, fresh_share p.number spec) ∷ []) mine_is;
+    }
+
+pub attached : (p q : HubView) (spec : HoldSpec) (hold : Option ℕ) → IsSame p q → HasCalled p q (Attach spec) (attach_reply hold) → HasAttached p q spec hold
+attached p q spec (Some hold) same c = new_hold p q spec hold same c
+attached p q spec None same c = made p q (Attach spec) (reply.Full 4096) same c
