@@ -11,3 +11,6 @@ mod stream;
 
 pub use plain::{PlainHold, PlainPlan};
 pub use stream::{StreamHold, StreamPlan};
+
+#[cfg(test)]
+mod tests;
