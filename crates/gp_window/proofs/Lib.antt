@@ -1,2 +1,5 @@
-pub mod Tallying
+pub mod Chaining
+pub mod Marking
+pub mod Walking
+pub mod Tipping
 pub mod Searching

@@ -1,5 +1,5 @@
 -- What a window is seen as.
-use Rattle.std.specs.Prelude.{ℕ, ◌≡◌, Bool, true, false, List, [], ◌∷◌, ◌++◌, Option, Some, None}
+use Rattle.std.specs.Prelude.{◌≡◌, Bool, true, false, List, [], ◌∷◌, ◌++◌, Option, Some, None}
 use Rattle.gp_plain.specs.Follow.{last_items, is_repeat}
 use Rattle.gp_plain.specs.declared.item.Item.{Item}
 use Rattle.gp_window.specs.declared.window.Pushed.{Pushed}

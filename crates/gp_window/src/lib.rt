@@ -3,16 +3,18 @@
 //! Contracts see the items, oldest first, and whether the memory for them was taken; what is looked for in them is
 //! defined in `gp_plain`. A ring of `circular_buffer` holds them, in one block that is taken once.
 //!
-//! Beside the ring stand counts of the ids and of the previous ids by 262,144 buckets, so that a search for an id that no
-//! item of the channel has is most often answered at once. Any other search compares ids and channels, never contents: `repeats` and
-//! `next_after` look at each item once at most. `ahead` looks at each item, and for each of the channel for one that goes
-//! on from it, beginning right behind the item: in a list that is nearly in order it finds it soon, and in the worst order it
-//! looks at all of them for each.
+//! Ids and previous ids are found by 16,384 buckets of channel and id. Items that share a bucket form a chain, from the newest
+//! to the oldest, so `repeats` and `next_after` look at the items of one bucket alone. Each chained item from which nothing goes
+//! on is marked, and the marks are counted by buckets of channels, so `ahead` is answered at once where no item of the
+//! channel's bucket is marked, or the one with the id alone; else it looks through the marks, from the newest item on.
+//! A push looks at the items of at most four buckets.
 #![tactic(auto)]
 
+mod bucket;
+mod chains;
+mod indexed;
+mod marks;
 mod ring;
-mod scan;
-mod tally;
 mod window;
 
 pub use window::{Pushed, Window};

@@ -133,3 +133,24 @@ fn the_first_of_4097_items_goes(rt: HostRuntime) -> Result<(), Fail> {
     assert!(rt; window.item(4095).is_some() && window.get(4096).is_none());
     Ok(())
 }
+
+#[test]
+fn an_item_is_ahead_again_once_what_went_on_from_it_goes(rt: HostRuntime) -> Result<(), Fail> {
+    let alloc = rt.alloc();
+    let channel = Name::new(alloc, b"news")?;
+    let (own, other) = (ItemId::new(alloc, b"b")?, ItemId::new(alloc, b"a")?);
+    let mut window = filled(alloc, &[("news", "c", "b"), ("news", "b", "a")])?;
+    for _turn in 0..4094u32 {
+        push(&mut window, item(alloc, ("news", "", "a"))?)?;
+    }
+    assert!(rt;
+        window.len() == 4096 && window.ahead(&channel, &own) && window.ahead(&channel, &other)
+    );
+    push(&mut window, item(alloc, ("news", "", "a"))?)?;
+    assert!(rt;
+        window.len() == 4096 && !window.ahead(&channel, &own) && window.ahead(&channel, &other)
+    );
+    push(&mut window, item(alloc, ("news", "", "a"))?)?;
+    assert!(rt; window.len() == 4096 && !window.ahead(&channel, &other));
+    Ok(())
+}

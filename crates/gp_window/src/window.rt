@@ -1,11 +1,11 @@
 ghost use Rattle.std.specs.Prelude.{◌≡◌, ◌++◌, ◌∷◌, [], length, true, false, IfOk, IfErr, IsOk, OnOk, OnErr, option_map, slice_get};
+ghost use Rattle.std.specs.List.{list_any};
 ghost use Rattle.gp_plain.specs.Follow.{is_repeat, last_items};
 ghost use Rattle.gp_window.specs.Items.{IsPushed, last};
-ghost use Rattle.gp_window.specs.Tallies.{bucket, id_bucket, prev_bucket, tally};
+ghost use Rattle.gp_window.specs.Searches.{has_id};
 
 use crate::ring::Ring;
-use crate::scan::has_alike;
-use gp_plain::{Item, ItemId, Name};
+use gp_plain::{Item, ItemId, Name, Places, Tail};
 use std::alloc::{AllocError, Global};
 use std::marker::Model;
 
@@ -73,23 +73,13 @@ impl Window {
         }
     }
 
-    /// Whether it is sure that no item of the channel has the id.
-    fn lacks_id(&self, channel: &Name, id: &ItemId) -> bool
-        ensures { result ≡ true → tally id_bucket (bucket channel.now id.now) self.now.items ≡ 0 }
+    /// Whether an item of the channel has the id.
+    fn has(&self, channel: &Name, id: &ItemId) -> bool
+        ensures { result ≡ list_any (has_id channel.now id.now) self.now.items }
     {
         match &self.items {
-            Some(items) => items.lacks_id(channel, id),
-            None => true,
-        }
-    }
-
-    /// Whether it is sure that no item of the channel has the id as its previous id.
-    pub fn lacks_prev(&self, channel: &Name, id: &ItemId) -> bool
-        ensures { result ≡ true → tally prev_bucket (bucket channel.now id.now) self.now.items ≡ 0 }
-    {
-        match &self.items {
-            Some(items) => items.lacks_prev(channel, id),
-            None => true,
+            Some(items) => items.has(channel, id),
+            None => false,
         }
     }
 
@@ -98,7 +88,7 @@ impl Window {
         ensures { result ≡ is_repeat self.now.items item.now }
     {
         match &item.id {
-            Some(id) => !self.lacks_id(&item.channel, id) && has_alike(self, item),
+            Some(id) => self.has(&item.channel, id),
             None => false,
         }
     }
@@ -126,6 +116,28 @@ impl Window {
                 }
                 Err(refused) => Err((item, refused)),
             },
+        }
+    }
+}
+
+impl Tail for Window {
+    ghost items = { λ w. w.items };
+
+    fn next_after(&self, channel: &Name, id: &ItemId, used: &Places) -> Option<usize> {
+        match &self.items {
+            Some(items) => items.next_after(channel, id, used),
+            None => None,
+        }
+    }
+
+    fn item(&self, place: usize) -> Option<&Item> {
+        self.get(place)
+    }
+
+    fn ahead(&self, channel: &Name, id: &ItemId) -> bool {
+        match &self.items {
+            Some(items) => items.ahead(channel, id),
+            None => false,
         }
     }
 }
