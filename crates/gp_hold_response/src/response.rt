@@ -1,5 +1,6 @@
 ghost use Rattle.std.specs.Prelude.{◌≡◌, ◌&&◌, ◌∷◌, [], ℕ, List, Bool, None, Some, IfOk, OnOk, OnErr, is_none, not, option_map, true};
 ghost use Rattle.gp_plain.specs.Fit.{fits_spec};
+ghost use Rattle.gp_plain.specs.Follow.{is_heard};
 ghost use Rattle.gp_plain.specs.Growth.{grown};
 ghost use Rattle.gp_plain.specs.Holds.{after_take, begun_state, offered, settled, taken_of, timed};
 ghost use Rattle.gp_plain.specs.Plans.{IsPlanned, IsPlanReady, grows, with_plan};
@@ -7,7 +8,7 @@ ghost use Rattle.gp_plain.specs.Tails.{ahead, on_channel};
 ghost use Rattle.gp_plain.specs.declared.event.HoldKind.TheVariants.{Response};
 ghost use Rattle.gp_plain.specs.declared.item.Item.{Item};
 ghost use Rattle.gp_plain.specs.declared.plan.Plan.TheVariants.{Grow};
-ghost use Rattle.gp_hold_response.specs.States.{moved_to, position_in, response_spec};
+ghost use Rattle.gp_hold_response.specs.States.{channels_of, moved_to, position_in, response_spec};
 
 use gp_plain::{
     EndCause, HoldKind, Item, ItemId, Name, Names, Pending, Pieces, Plan, Run, Tail, Taken,
@@ -54,6 +55,16 @@ impl Heard {
         match self {
             Heard::Any(_) => None,
             Heard::From { position, .. } => Some(position),
+        }
+    }
+
+    /// Whether the item is on a channel of it.
+    fn has_channel_of(&self, item: &Item) -> bool
+        ensures { result ≡ is_heard (channels_of self.now) item.now }
+    {
+        match self {
+            Heard::Any(channels) => item.is_heard(channels),
+            Heard::From { channel, .. } => item.is_on(channel),
         }
     }
 
@@ -147,6 +158,13 @@ impl ResponseHold {
             unreachable!()
         };
         ResponseHold::begin_from(alloc, channel, prev, deadline, again, window)
+    }
+
+    /// Whether it is live and listens to the channel of the item; no other item changes it.
+    pub fn hears(&self, item: &Item) -> bool
+        ensures { result ≡ (is_none self.now.state.ended && is_heard self.now.state.terms.channels item.now) }
+    {
+        self.ended.is_none() && self.heard.has_channel_of(item)
     }
 
     /// What an item of any of its channels does: one with a response part answers.

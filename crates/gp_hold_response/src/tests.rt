@@ -121,15 +121,13 @@ fn attached(alloc: Global, again: bool, last: Option<Row<'_>>) -> Result<Respons
     Ok(ResponseHold::begin(alloc, &names, Some(&prev), 100, again, &window)?)
 }
 
-/// Whether an item makes the log of a live hold grow.
+/// Whether an item makes the log of a hold grow that hears it.
 fn serve(hold: &mut ResponseHold, item: &Item, window: &Last) -> Result<bool, Fail> {
-    match hold.cause() {
-        Some(_) => Ok(false),
-        None => {
-            let plan = hold.offer(item, window)?;
-            Ok(hold.commit(plan))
-        }
+    if !hold.hears(item) {
+        return Ok(false);
     }
+    let plan = hold.offer(item, window)?;
+    Ok(hold.commit(plan))
 }
 
 /// Serves an item with an answer.

@@ -1,5 +1,6 @@
-ghost use Rattle.std.specs.Prelude.{◌≡◌, ◌==◌, ℕ, List, Bool, None, length, not, option_map, IfOk, OnOk, OnErr, true};
+ghost use Rattle.std.specs.Prelude.{◌≡◌, ◌==◌, ◌&&◌, ℕ, List, Bool, None, is_none, length, not, option_map, IfOk, OnOk, OnErr, true};
 ghost use Rattle.gp_plain.specs.Fit.{is_short_page};
+ghost use Rattle.gp_plain.specs.Follow.{is_heard};
 ghost use Rattle.gp_plain.specs.Holds.{after_take, begun_state, offered, settled_if, taken_of};
 ghost use Rattle.gp_plain.specs.Growth.{grown};
 ghost use Rattle.gp_plain.specs.declared.item.Item.{Item};
@@ -54,6 +55,13 @@ impl PlainHold {
             pending,
             ended,
         })
+    }
+
+    /// Whether it is live and listens to the channel of the item; no other item changes it.
+    pub fn hears(&self, item: &Item) -> bool
+        ensures { result ≡ (is_none self.now.state.ended && is_heard self.now.state.terms.channels item.now) }
+    {
+        self.ended.is_none() && item.is_heard(&self.channels)
     }
 
     /// What an item does. The hold stays as it is.

@@ -1,5 +1,6 @@
 ghost use Rattle.std.specs.Prelude.{◌≡◌, ◌==◌, ◌&&◌, ℕ, None, IfOk, OnOk, OnErr, cond, is_none, length, option_map, true};
 ghost use Rattle.gp_plain.specs.Fit.{is_short_page};
+ghost use Rattle.gp_plain.specs.Follow.{is_heard};
 ghost use Rattle.gp_plain.specs.Growth.{grown};
 ghost use Rattle.gp_plain.specs.Holds.{after_take, begun_state, gapped, offered, settled, taken_of};
 ghost use Rattle.gp_plain.specs.Tails.{ahead, on_channel};
@@ -100,6 +101,13 @@ impl StreamHold {
             late: false,
             misses: 0,
         })
+    }
+
+    /// Whether it is live and listens to the channel of the item; no other item changes it.
+    pub fn hears(&self, item: &Item) -> bool
+        ensures { result ≡ (is_none self.now.state.ended && is_heard self.now.state.terms.channels item.now) }
+    {
+        self.ended.is_none() && item.is_on(&self.channel)
     }
 
     /// What an item does: the window is that before the item. The hold stays as it is.

@@ -94,15 +94,13 @@ fn attached(alloc: Global, link: bool, last: Option<Row<'_>>) -> Result<StreamHo
     Ok(StreamHold::begin(alloc, &channel, &prev, link, &opening, &window)?)
 }
 
-/// Whether an item makes the log of a live hold grow.
+/// Whether an item makes the log of a hold grow that hears it.
 fn serve(hold: &mut StreamHold, item: &Item, window: &Last) -> Result<bool, Fail> {
-    match hold.cause() {
-        Some(_) => Ok(false),
-        None => {
-            let plan = hold.plan(item, window)?;
-            Ok(hold.commit(plan))
-        }
+    if !hold.hears(item) {
+        return Ok(false);
     }
+    let plan = hold.plan(item, window)?;
+    Ok(hold.commit(plan))
 }
 
 /// Serves an item with a content.
@@ -266,15 +264,13 @@ fn names(alloc: Global, texts: &[&str]) -> Result<Names, Fail> {
     Ok(List::from_vec(names))
 }
 
-/// Whether an item makes the log of a live plain hold grow.
+/// Whether an item makes the log of a plain hold grow that hears it.
 fn serve_plain(hold: &mut PlainHold, item: &Item) -> Result<bool, Fail> {
-    match hold.cause() {
-        Some(_) => Ok(false),
-        None => {
-            let plan = hold.plan(item)?;
-            Ok(hold.commit(plan))
-        }
+    if !hold.hears(item) {
+        return Ok(false);
     }
+    let plan = hold.plan(item)?;
+    Ok(hold.commit(plan))
 }
 
 fn plain(alloc: Global) -> Result<PlainHold, Fail> {

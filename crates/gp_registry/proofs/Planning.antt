@@ -1,15 +1,19 @@
 -- What a plan of a plain hold is to a hold that may have ended.
-use Rattle.std.proofs.Common.{◌≡◌, ℕ, Bool, true, false, cond, not, ◌&&◌, ◌||◌, List, [], ◌∷◌, refl, sym, ap, ◌∙◌, Option, Some, None, is_some}
+use Rattle.std.proofs.Common.{◌≡◌, ℕ, Bool, true, false, cond, not, ◌&&◌, ◌||◌, List, [], ◌∷◌, refl, sym, ap, ◌∙◌, Option, Some, None, is_none, is_some}
 use Rattle.std.specs.List.{list_any}
 use Rattle.gp_plain.specs.declared.item.Item.{Item}
 use Rattle.gp_plain.specs.Items.{is_on, is_same, is_id}
 use Rattle.gp_plain.specs.Follow.{is_repeat}
 use Rattle.gp_plain.specs.Holds.{State, is_live, offered, grew}
 use Rattle.gp_plain.specs.Plans.{Machine}
+use Rattle.gp_plain.specs.declared.reply.EndCause.{EndCause}
 use Rattle.gp_hold_stream.specs.declared.plain.PlainPlan.{PlainPlan}
 use Rattle.gp_hold_stream.specs.Plain.{IsPlainPlanned}
 use Rattle.gp_registry.specs.Keeps.{offered_if}
 use Rattle.gp_registry.specs.Stages.{IsPlainStaged}
+
+absurd_true : {A : Type 0} → false ≡ true → A
+absurd_true e = cc
 
 live_is : (item : Item) (window : List Item) (s : State) → s.ended ≡ None → offered item window s ≡ offered_if item window s
 live_is item window s n = sym (ap (λ e. cond (not (is_some e)) (offered item window s) s) n)
@@ -19,10 +23,12 @@ plain_staged item window m plan n p =
     let same = live_is item window m.state n in
     record { ready = p.ready; effect = p.effect ∙ same; told = p.told ∙ ap (grew m.state) same }
 
--- a repeat has an id
+-- a hold that hears an item is live
+pub live_by : (ended : Option EndCause) (heard : Bool) → (is_none ended && heard) ≡ true → ended ≡ None
+live_by None heard e = refl
+live_by (Some cause) heard e = absurd_true e
 
-absurd_true : {A : Type 0} → false ≡ true → A
-absurd_true e = cc
+-- a repeat has an id
 
 none_same : (other : Option (List ℕ)) → is_same None other ≡ false
 none_same None = refl

@@ -1,4 +1,4 @@
-ghost use Rattle.std.specs.Prelude.{◌≡◌, List, IfOk, OnOk, OnErr, option_map, true};
+ghost use Rattle.std.specs.Prelude.{◌≡◌, List, None, IfOk, OnOk, OnErr, option_map, true};
 ghost use Rattle.gp_plain.specs.Fit.{fits_spec, is_built_spec};
 ghost use Rattle.gp_plain.specs.Holds.{after_take, begun_state, settled_if, taken_of};
 ghost use Rattle.gp_plain.specs.Plans.{IsPlanReady, grows, with_plan};
@@ -61,39 +61,61 @@ pub fn begun(alloc: Global, spec: &HoldSpec, window: &Window) -> Result<HoldMach
     }
 }
 
-fn plan_stream(
+/// No plan any more. Where there was none nothing is written.
+fn forget<T: Drop>(plan: &mut Option<T>)
+    ensures { plan.new ≡ None }
+{
+    if plan.is_some() {
+        *plan = None;
+    }
+}
+
+/// Plans what an item does to a hold that hears it, and nothing to another.
+fn stage_stream(
     hold: &StreamHold,
+    plan: &mut Option<StreamPlan>,
     item: &Item,
     window: &Window,
-) -> Result<Option<StreamPlan>, AllocError>
-    ensures { IfOk result (IsStreamStaged item.now window.now.items hold.now) }
+) -> Result<(), AllocError>
+    ensures { OnOk result (IsStreamStaged item.now window.now.items hold.now plan.new) }
 {
-    match hold.cause() {
-        None => Ok(Some(hold.plan(item, window)?)),
-        Some(_) => Ok(None),
+    if hold.hears(item) {
+        *plan = Some(hold.plan(item, window)?);
+    } else {
+        forget(plan);
     }
+    Ok(())
 }
 
-fn plan_plain(hold: &PlainHold, item: &Item) -> Result<Option<PlainPlan>, AllocError>
-    ensures { (window : List Item) → IfOk result (IsPlainStaged item.now window hold.now) }
+fn stage_plain(
+    hold: &PlainHold,
+    plan: &mut Option<PlainPlan>,
+    item: &Item,
+) -> Result<(), AllocError>
+    ensures { (window : List Item) → OnOk result (IsPlainStaged item.now window hold.now plan.new) }
 {
-    match hold.cause() {
-        None => Ok(Some(hold.plan(item)?)),
-        Some(_) => Ok(None),
+    if hold.hears(item) {
+        *plan = Some(hold.plan(item)?);
+    } else {
+        forget(plan);
     }
+    Ok(())
 }
 
-fn plan_response(
+fn stage_response(
     hold: &ResponseHold,
+    plan: &mut Option<ResponsePlan>,
     item: &Item,
     window: &Window,
-) -> Result<Option<ResponsePlan>, AllocError>
-    ensures { IfOk result (IsStreamStaged item.now window.now.items hold.now) }
+) -> Result<(), AllocError>
+    ensures { OnOk result (IsStreamStaged item.now window.now.items hold.now plan.new) }
 {
-    match hold.cause() {
-        None => Ok(Some(hold.offer(item, window)?)),
-        Some(_) => Ok(None),
+    if hold.hears(item) {
+        *plan = Some(hold.offer(item, window)?);
+    } else {
+        forget(plan);
     }
+    Ok(())
 }
 
 /// Carries out a plan, and settles the marks of a hold that went on.
@@ -122,6 +144,16 @@ fn commit_response(hold: &mut ResponseHold, plan: ResponsePlan, window: &Window)
     went_on
 }
 
+/// Takes a plan out where there is one, so that nothing is moved where there is none.
+fn taken<T: Drop>(plan: &mut Option<T>) -> Option<T>
+    ensures { result ≡ plan.old }
+{
+    if plan.is_none() {
+        return None;
+    }
+    plan.take()
+}
+
 impl HoldMachine {
     /// Plans what an item does. The hold stays as it is.
     pub fn stage(&mut self, item: &Item, window: &Window) -> Result<(), AllocError>
@@ -129,11 +161,10 @@ impl HoldMachine {
         ensures staged { OnOk result (IsStagedBy item.now window.now.items self.new) }
     {
         match self {
-            HoldMachine::Stream { hold, plan } => *plan = plan_stream(hold, item, window)?,
-            HoldMachine::Plain { hold, plan } => *plan = plan_plain(hold, item)?,
-            HoldMachine::Response { hold, plan } => *plan = plan_response(hold, item, window)?,
+            HoldMachine::Stream { hold, plan } => stage_stream(hold, plan, item, window),
+            HoldMachine::Plain { hold, plan } => stage_plain(hold, plan, item),
+            HoldMachine::Response { hold, plan } => stage_response(hold, plan, item, window),
         }
-        Ok(())
     }
 
     /// Carries out what is planned, settles the marks of a hold that went on by the window behind the item, and says
@@ -144,15 +175,15 @@ impl HoldMachine {
         ensures grew { result ≡ appends self.old }
     {
         match self {
-            HoldMachine::Stream { hold, plan } => match plan.take() {
+            HoldMachine::Stream { hold, plan } => match taken(plan) {
                 Some(plan) => commit_stream(hold, plan, window),
                 None => false,
             },
-            HoldMachine::Plain { hold, plan } => match plan.take() {
+            HoldMachine::Plain { hold, plan } => match taken(plan) {
                 Some(plan) => hold.commit(plan),
                 None => false,
             },
-            HoldMachine::Response { hold, plan } => match plan.take() {
+            HoldMachine::Response { hold, plan } => match taken(plan) {
                 Some(plan) => commit_response(hold, plan, window),
                 None => false,
             },
