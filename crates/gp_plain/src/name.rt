@@ -1,5 +1,6 @@
-ghost use Rattle.std.specs.Prelude.{◌≡◌, ◌<◌, ℕ, length, false, MatchResult, MatchOption, IfOk};
+ghost use Rattle.std.specs.Prelude.{◌≡◌, ◌≢◌, ◌<◌, ℕ, length, false, MatchResult, MatchOption, IfOk};
 ghost use Rattle.gp_plain.specs.Names.{IsNameFault, IsName, IsFirstBad, is_barred, is_bad_at, same_id};
+ghost use Rattle.gp_plain.specs.declared.name.NameFault.TheVariants.{NoMemory};
 
 use crate::body::Body;
 use std::alloc::{AllocError, Global};
@@ -65,8 +66,9 @@ fn first_bad(bytes: &[u8]) -> Option<usize>
     None
 }
 
-fn read(alloc: Global, bytes: &[u8]) -> Result<Body, NameFault>
-    ensures { MatchResult result (λ n. (n ≡ bytes.now) × IsName bytes.now) (IsNameFault bytes.now) }
+/// Whether bytes spell a name, or the first reason why they spell none. It takes no memory.
+fn check(bytes: &[u8]) -> Result<(), NameFault>
+    ensures { MatchResult result (λ done. IsName bytes.now) (λ fault. IsNameFault bytes.now fault × (fault ≢ NoMemory)) }
 {
     if bytes.is_empty() {
         return Err(NameFault::Empty);
@@ -74,13 +76,27 @@ fn read(alloc: Global, bytes: &[u8]) -> Result<Body, NameFault>
     if bytes.len() > 255 {
         return Err(NameFault::Long(bytes.len() as u64));
     }
-    if let Some(place) = first_bad(bytes) {
-        return Err(NameFault::Byte(place as u32));
+    match first_bad(bytes) {
+        Some(place) => Err(NameFault::Byte(place as u32)),
+        None => Ok(()),
     }
+}
+
+fn read(alloc: Global, bytes: &[u8]) -> Result<Body, NameFault>
+    ensures { MatchResult result (λ n. (n ≡ bytes.now) × IsName bytes.now) (IsNameFault bytes.now) }
+{
+    check(bytes)?;
     match Body::new(alloc, bytes) {
         Ok(bytes) => Ok(bytes),
         Err(_) => Err(NameFault::NoMemory),
     }
+}
+
+fn taken(bytes: Vec<u8>) -> Result<Body, NameFault>
+    ensures { MatchResult result (λ n. (n ≡ bytes.items) × IsName bytes.items) (λ fault. IsNameFault bytes.items fault × (fault ≢ NoMemory)) }
+{
+    check(bytes.as_slice())?;
+    Ok(Body::from_vec(bytes))
 }
 
 impl Name {
@@ -90,6 +106,16 @@ impl Name {
     {
         Ok(Name {
             bytes: read(alloc, bytes)?,
+        })
+    }
+
+    /// The name that a `Vec`'s bytes spell, or the first reason why they spell none. It takes no memory, so `NoMemory`
+    /// never comes.
+    pub fn from_vec(bytes: Vec<u8>) -> Result<Name, NameFault>
+        ensures { MatchResult result (λ n. (n ≡ bytes.items) × IsName bytes.items) (λ fault. IsNameFault bytes.items fault × (fault ≢ NoMemory)) }
+    {
+        Ok(Name {
+            bytes: taken(bytes)?,
         })
     }
 
@@ -124,6 +150,16 @@ impl ItemId {
     {
         Ok(ItemId {
             bytes: read(alloc, bytes)?,
+        })
+    }
+
+    /// The id that a `Vec`'s bytes spell, or the first reason why they spell none. It takes no memory, so `NoMemory`
+    /// never comes.
+    pub fn from_vec(bytes: Vec<u8>) -> Result<ItemId, NameFault>
+        ensures { MatchResult result (λ n. (n ≡ bytes.items) × IsName bytes.items) (λ fault. IsNameFault bytes.items fault × (fault ≢ NoMemory)) }
+    {
+        Ok(ItemId {
+            bytes: taken(bytes)?,
         })
     }
 

@@ -18,6 +18,18 @@ fn a_name_is_refused_by_its_first_fault(rt: HostRuntime) -> Result<(), Fail> {
     Ok(())
 }
 
+#[test]
+fn a_vec_is_taken_as_a_name(rt: HostRuntime) -> Result<(), Fail> {
+    let alloc = rt.alloc();
+    let name = Name::from_vec(Vec::from_slice(alloc, b"a b".as_slice())?)?;
+    assert_eq!(rt; name.bytes(), b"a b".as_slice());
+    let id = ItemId::from_vec(Vec::from_slice(alloc, b"7".as_slice())?)?;
+    assert_eq!(rt; id.bytes(), b"7".as_slice());
+    let fault = ItemId::from_vec(Vec::from_slice(alloc, b"7;".as_slice())?).err();
+    assert_eq!(rt; fault, Some(NameFault::Byte(1)));
+    Ok(())
+}
+
 /// How many pieces a Take gives of two of so many bytes.
 fn given(alloc: Global, size: usize) -> Result<usize, Fail> {
     let mut pending = Pending::new(alloc);

@@ -5,7 +5,7 @@ ghost use Rattle.gp_script.specs.Guess.{bytes_of, id_of, is_word, names_of, numb
 ghost use Rattle.gp_script.specs.Lines.{IsBytes, IsNamed, IsSomeId};
 
 use crate::fault::LineFault;
-use gp_plain::{Body, ItemId, List, Name, NameFault, Names};
+use gp_plain::{Body, ItemId, List, Name, Names};
 use percent_encoding::percent_decode;
 use std::alloc::{AllocError, Global};
 use std::marker::Model;
@@ -46,10 +46,12 @@ fn bytes_of(alloc: Global, word: &[u8]) -> Result<Vec<u8>, AllocError>
     ensures ok { IfOk result (λ bytes. bytes.items ≡ bytes_of word.now) }
     ensures small { IfOk result (λ bytes. IsBytes bytes.items) }
 {
-    let mut bytes = Vec::new(alloc);
-    if word != b"!".as_slice() {
-        percent_decode(word).append_to(&mut bytes)?;
+    if word == b"!".as_slice() {
+        return Ok(Vec::new(alloc));
     }
+    // A word is never shorter than what it spells, and as long where nothing in it is escaped.
+    let mut bytes = Vec::with_capacity(alloc, word.len())?;
+    percent_decode(word).append_to(&mut bytes)?;
     Ok(bytes)
 }
 
@@ -58,10 +60,8 @@ fn name_of(alloc: Global, word: &[u8]) -> Result<Name, LineFault>
     ensures made { IfOk result IsNamed }
     ensures bad { OnBad result (¬ (IsNamed (bytes_of word.now))) }
 {
-    let bytes = bytes_of(alloc, word)?;
-    match Name::new(alloc, bytes.as_slice()) {
+    match Name::from_vec(bytes_of(alloc, word)?) {
         Ok(name) => Ok(name),
-        Err(NameFault::NoMemory) => Err(LineFault::NoMemory),
         Err(_) => Err(LineFault::Bad),
     }
 }
@@ -161,10 +161,8 @@ impl<'a> Words<'a> {
         ensures made { IfOk result IsNamed }
         ensures bad { OnBad result (¬ (IsNamed (bytes_of (word_at self.now place)))) }
     {
-        let bytes = bytes_of(alloc, self.at(place))?;
-        match ItemId::new(alloc, bytes.as_slice()) {
+        match ItemId::from_vec(bytes_of(alloc, self.at(place))?) {
             Ok(id) => Ok(id),
-            Err(NameFault::NoMemory) => Err(LineFault::NoMemory),
             Err(_) => Err(LineFault::Bad),
         }
     }
