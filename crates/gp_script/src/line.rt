@@ -16,6 +16,9 @@ const ESCAPED: AsciiSet = ascii_set!(
         .remove(b'~')
 );
 
+/// How many bytes a line has room for at first. Most lines are shorter.
+const ROOM: usize = 64;
+
 /// A line that is being written: words parted by one space. Contracts see its bytes.
 #[derive(Drop)]
 pub struct Line {
@@ -60,7 +63,7 @@ impl Line {
     pub fn new(alloc: Global, first: &str) -> Result<Line, AllocError>
         ensures { IfOk result (λ line. line ≡ first.now) }
     {
-        let mut text = String::new(alloc);
+        let mut text = String::with_capacity(alloc, ROOM)?;
         text.push_str(first)?;
         Ok(Line { text })
     }

@@ -66,11 +66,16 @@ fn name_of(alloc: Global, word: &[u8]) -> Result<Name, LineFault>
     }
 }
 
+/// No line of the grammar has more words, and no event that fits more names in one.
+const PARTS: usize = 8;
+
 /// What stands before, between and after the marks.
 fn parts(alloc: Global, text: &[u8], mark: u8) -> Result<Vec<&[u8]>, AllocError>
     ensures { IfOk result (λ parts. map (λ part. part.now) parts.items ≡ slice_split (λ b. eqb b mark) text.now) }
 {
-    text.split(|byte| *byte == mark).collect(alloc)
+    let mut parts = Vec::with_capacity(alloc, PARTS)?;
+    parts.extend(text.split(|byte| *byte == mark))?;
+    Ok(parts)
 }
 
 fn names_of(alloc: Global, words: &[&[u8]]) -> Result<Names, LineFault>
