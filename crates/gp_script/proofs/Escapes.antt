@@ -1,14 +1,16 @@
 -- A word spells its bytes, and no others.
-use Rattle.std.proofs.Common.{◌≡◌, ◌≢◌, ℕ, zero, suc, ◌<◌, ◌≤◌, ◌⊎◌, inl, inr, ⊎_elim, eqb, Bool, true, false, not, ◌&&◌, cond, List, [], ◌∷◌, length, All, Option, Some, None, refl, ap, sym, subst, ◌∙◌, arith, codes, ◌++◌}
+use Rattle.std.proofs.Common.{IsAscii, ◌≡◌, ◌≢◌, ℕ, zero, suc, ◌<◌, ◌≤◌, ◌⊎◌, inl, inr, ⊎_elim, eqb, Bool, true, false, not, ◌&&◌, ◌||◌, cond, List, [], ◌∷◌, length, All, Option, Some, None, refl, ap, sym, subst, ◌∙◌, arith, codes, ◌++◌}
 use borrow.Author.Count.{below_more}
-use Rattle.std.specs.List.{flat_map}
+use mathlib.Core.Bool.{true≢false}
+use Rattle.std.specs.List.{flat_map, list_all, list_any}
 use Rattle.std.specs.Cmp.Lexicographic.{pointwise, same_text}
 use Rattle.std.proofs.lemmas.Bool.Decides.{nat_tests}
-use Rattle.std.proofs.lemmas.Bool.{and_parts, cases_lt, cond-false, ne_eqb}
+use Rattle.std.proofs.lemmas.Bool.{and_parts, cases_lt, eq-eqb, cond-false, cond-true, ne_eqb}
 use Rattle.std.proofs.lemmas.List.Elements.{All-nil, All-cons, All-head, All-weaker}
+use Rattle.std.proofs.lemmas.Str.Ascii.{IsAscii-from_all}
 use Rattle.percent_encoding.specs.Percent.{percent_encode, percent_encode_byte, percent_decode, encode_byte}
 use Rattle.percent_encoding.specs.AsciiSet.{should_percent_encode}
-use Rattle.percent_encoding.proofs.PercentLemmas.{All-percent_encode, IsEscapeByte, round_trip}
+use Rattle.percent_encoding.proofs.PercentLemmas.{All-percent_encode, IsEscapeByte, percent_decode-nil, percent_decode_not_percent, round_trip}
 use Rattle.gp_script.specs.declared.line.TheConstants.{ESCAPED}
 use Rattle.gp_script.specs.Guess.{bytes_of, id_of, is_word}
 use Rattle.gp_script.specs.Lines.{IsBytes, IsSomeId}
@@ -74,6 +76,30 @@ pub percent_encode-word : (bytes : List ℕ) → 1 ≤ length bytes → percent_
 percent_encode-word [] h = absurd (omega arith)
 percent_encode-word (b ∷ bs) h = percent_encode-is (b ∷ bs)
 
+-- ---- bytes that spell themselves
+
+plain_spell : (bytes : List ℕ) → list_all is_plain bytes ≡ true → spell bytes ≡ bytes
+plain_spell [] plain = refl
+plain_spell (b ∷ bs) plain =
+    let both = and_parts (is_plain b) (list_all is_plain bs) plain in
+    ap (λ x. x ++ spell bs) (cond-true (is_plain b) (b ∷ []) (percent_encode_byte b) both.0) ∙ ap (λ xs. b ∷ xs) (plain_spell bs both.1)
+
+plain_small : (b : ℕ) → is_plain b ≡ true → b < 128
+plain_small b h = grind (arith, nat_tests)
+
+all_small : (bytes : List ℕ) → list_all is_plain bytes ≡ true → All (λ (b : ℕ). b < 128) bytes
+all_small [] plain = All-nil (λ (b : ℕ). b < 128)
+all_small (b ∷ bs) plain =
+    let both = and_parts (is_plain b) (list_all is_plain bs) plain in
+    All-cons (λ (b : ℕ). b < 128) b bs (plain_small b both.0) (all_small bs both.1)
+
+pub plain_ascii : (bytes : List ℕ) → list_all is_plain bytes ≡ true → IsAscii bytes
+plain_ascii bytes plain = IsAscii-from_all bytes (all_small bytes plain)
+
+pub plain_word : (bytes : List ℕ) → list_all is_plain bytes ≡ true → 1 ≤ length bytes → word bytes ≡ bytes
+plain_word [] plain some = absurd (omega arith)
+plain_word (b ∷ bs) plain some = plain_spell (b ∷ bs) plain
+
 -- ---- the bytes of a word
 
 -- a byte of a word that spells something: `%`, or from `-` on
@@ -109,6 +135,18 @@ word_spaceless (b ∷ bs) = All-weaker IsClear (λ (n : ℕ). eqb n 32 ≡ false
 pub word_commaless : (v : List ℕ) → All (λ (b : ℕ). eqb b 44 ≡ false) (word v)
 word_commaless [] = one_byte (λ (b : ℕ). eqb b 44 ≡ false) 33 refl
 word_commaless (b ∷ bs) = All-weaker IsClear (λ (n : ℕ). eqb n 44 ≡ false) (λ n h. ne_eqb n 44 (λ e. ⊎_elim (λ p. absurd (omega arith)) (λ p. absurd (omega arith)) h)) (word (b ∷ bs)) (word_clear b bs)
+
+-- ---- a word without `%` is read as it stands
+
+neither : (a b : Bool) → (a || b) ≡ false → (a ≡ false) × (b ≡ false)
+neither true b e = absurd (true≢false e)
+neither false b e = (refl, e)
+
+pub no_percent : (word : List ℕ) → list_any (λ b. eqb b 37) word ≡ false → percent_decode word ≡ word
+no_percent [] none = percent_decode-nil
+no_percent (b ∷ bs) none =
+    let both = neither (eqb b 37) (list_any (λ b. eqb b 37) bs) none in
+    percent_decode_not_percent b bs (λ is. true≢false (sym (eq-eqb b 37 is) ∙ both.0)) ∙ ap (λ xs. b ∷ xs) (no_percent bs both.1)
 
 -- ---- what a word spells is read from it
 

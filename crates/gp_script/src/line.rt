@@ -1,9 +1,10 @@
 ghost use Rattle.std.specs.Prelude.{◌≡◌, ◌++◌, ◌∷◌, IfOk, OnOk, option_map, string_bytes, codes};
 ghost use Rattle.std.specs.Fmt.{decimal};
-ghost use Rattle.gp_script.specs.Spelling.{word, id_word, names_word, spell};
+ghost use Rattle.std.specs.List.{list_all};
+ghost use Rattle.gp_script.specs.Spelling.{is_plain, word, id_word, names_word, spell};
 
 use gp_plain::{Body, ItemId, Name};
-use percent_encoding::{AsciiSet, NON_ALPHANUMERIC, ascii_set, percent_encode};
+use percent_encoding::{AsciiSet, NON_ALPHANUMERIC, ascii_set, ascii_str, percent_encode};
 use std::alloc::{AllocError, Global};
 use std::marker::Model;
 
@@ -33,12 +34,26 @@ impl Model for Line {
     ghost view = { λ l. string_bytes l.text };
 }
 
-/// Adds bytes as a word spells them.
+fn is_plain(byte: u8) -> bool
+    ensures { result ≡ is_plain byte }
+{
+    byte.is_ascii_alphanumeric() || byte == b'-' || byte == b'.' || byte == b'_' || byte == b'~'
+}
+
+/// Whether bytes spell themselves.
+fn are_plain(bytes: &[u8]) -> bool
+    ensures { result ≡ list_all is_plain bytes.now }
+{
+    bytes.iter().all(|byte| is_plain(*byte))
+}
+
+/// Adds bytes as a word spells them. Most need no escape, and are added at once.
 fn push_bytes(text: &mut String, bytes: &[u8]) -> Result<(), AllocError>
     ensures { OnOk result (string_bytes text.new ≡ string_bytes text.old ++ word bytes.now) }
 {
     match bytes {
         [] => text.push_str("!"),
+        _ if are_plain(bytes) => text.push_str(ascii_str(bytes)),
         _ => percent_encode(bytes, ESCAPED).append_to(text),
     }
 }
@@ -52,7 +67,7 @@ fn push_names(text: &mut String, names: &[Name]) -> Result<(), AllocError>
         [name] => push_bytes(text, name.bytes()),
         [name, rest @ ..] => {
             push_bytes(text, name.bytes())?;
-            text.push_str(",")?;
+            text.push(',')?;
             push_names(text, rest)
         }
     }
@@ -73,7 +88,7 @@ impl Line {
         ensures { IfOk result (λ line. line ≡ self ++ 32 ∷ more.now) }
     {
         let mut text = self.text;
-        text.push_str(" ")?;
+        text.push(' ')?;
         text.push_str(more)?;
         Ok(Line { text })
     }
@@ -92,7 +107,7 @@ impl Line {
         ensures { IfOk result (λ line. line ≡ self ++ 32 ∷ word bytes.now) }
     {
         let mut text = self.text;
-        text.push_str(" ")?;
+        text.push(' ')?;
         push_bytes(&mut text, bytes)?;
         Ok(Line { text })
     }
@@ -102,7 +117,7 @@ impl Line {
         ensures { IfOk result (λ line. line ≡ self ++ 32 ∷ names_word names.now) }
     {
         let mut text = self.text;
-        text.push_str(" ")?;
+        text.push(' ')?;
         push_names(&mut text, names)?;
         Ok(Line { text })
     }
@@ -122,7 +137,7 @@ impl Line {
         ensures { IfOk result (λ line. line ≡ self ++ 10 ∷ first.now) }
     {
         let mut text = self.text;
-        text.push_str("\n")?;
+        text.push('\n')?;
         text.push_str(first)?;
         Ok(Line { text })
     }
@@ -139,7 +154,7 @@ impl Line {
         ensures { IfOk result (λ body. body ≡ self ++ codes "\n") }
     {
         let mut text = self.text;
-        text.push_str("\n")?;
+        text.push('\n')?;
         Ok(Body::from_vec(text.into_bytes()))
     }
 }

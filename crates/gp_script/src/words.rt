@@ -49,9 +49,14 @@ fn bytes_of(alloc: Global, word: &[u8]) -> Result<Vec<u8>, AllocError>
     if word == b"!".as_slice() {
         return Ok(Vec::new(alloc));
     }
-    // A word is never shorter than what it spells, and as long where nothing in it is escaped.
+    // A word is never shorter than what it spells.
     let mut bytes = Vec::with_capacity(alloc, word.len())?;
-    percent_decode(word).append_to(&mut bytes)?;
+    let decoded = percent_decode(word);
+    if word.contains(&b'%') {
+        decoded.append_to(&mut bytes)?;
+    } else {
+        bytes.extend_from_slice(word)?;
+    }
     Ok(bytes)
 }
 
