@@ -1,4 +1,4 @@
-ghost use Rattle.std.specs.Prelude.{◌≡◌, ◌+◌, ◌^◌, ◌<◌, ◌≤◌, ◌++◌, ◌∷◌, [], ◌⊎◌, true, ℕ, List, All, OnOk, IfOk, length, map, take, option_map, slice_get, Some};
+ghost use Rattle.std.specs.Prelude.{◌≡◌, ◌+◌, ◌^◌, ◌<◌, ◌≤◌, ◌++◌, ◌∷◌, [], ◌⊎◌, true, ℕ, List, All, OnOk, IfOk, length, map, take, option_map, slice_get, string_bytes, Some};
 ghost use Rattle.std.specs.List.{flat_map};
 ghost use Rattle.gp_plain.specs.Fit.{fits};
 ghost use Rattle.gp_plain.specs.Pieces.{moved, position_after, text};
@@ -15,7 +15,7 @@ use crate::log::Log;
 use crate::logs::{note, noted};
 use gp_plain::{Body, EndCause, Event, ItemId, Piece, Pieces};
 use gp_registry::Registry;
-use gp_script::{write_end, write_hold, write_piece, write_reply};
+use gp_script::{add_end, add_hold, add_piece, add_reply};
 use std::alloc::{AllocError, Global};
 
 /// Steps one event, adds the line of its reply, and keeps what that says of the logs.
@@ -24,13 +24,13 @@ fn play_one(
     registry: &mut Registry,
     logs: &mut Vec<Log>,
     event: Event,
-    out: &mut Vec<u8>,
+    out: &mut String,
 ) -> Result<(), AllocError>
     requires fits { fits event ≡ true }
     requires room { registry.old.next < 2 ^ 62 }
     ensures number { registry.new.next ≤ registry.old.next + 1 }
     ensures stands { (past : List Entry) → StandsFor registry.old past → OnOk result (StandsFor registry.new (past ++ entry_of event ∷ [])) }
-    ensures text { (past : List Entry) → StandsFor registry.old past → OnOk result (out.new.items ≡ out.old.items ++ reply_text (reply past 0 event)) }
+    ensures text { (past : List Entry) → StandsFor registry.old past → OnOk result (string_bytes out.new ≡ string_bytes out.old ++ reply_text (reply past 0 event)) }
     ensures logs { (past : List Entry) → StandsFor registry.old past → logs.old.items ≡ map log_of (held past) → OnOk result (logs.new.items ≡ map log_of (held (past ++ entry_of event ∷ []))) }
     ensures part { (past : List Entry) → StandsFor registry.old past → StandsFor registry.new past ⊎ StandsFor registry.new (past ++ entry_of event ∷ []) }
 {
@@ -39,8 +39,7 @@ fn play_one(
         Ok(reply) => reply,
         Err((_, refused)) => return Err(refused),
     };
-    let line = write_reply(alloc, &reply)?;
-    out.extend_from_slice(line.bytes())?;
+    add_reply(alloc, out, &reply)?;
     note(alloc, logs, noted, reply)
 }
 
@@ -50,12 +49,12 @@ fn play_events(
     registry: &mut Registry,
     logs: &mut Vec<Log>,
     events: Vec<Event>,
-    out: &mut Vec<u8>,
+    out: &mut String,
 ) -> Result<(), AllocError>
     requires fit { All (λ event. fits event ≡ true) events.items }
     requires room { registry.old.next + length events.items < 2 ^ 62 }
     ensures stands { (past : List Entry) → StandsFor registry.old past → OnOk result (StandsFor registry.new (past ++ entries_of events.items)) }
-    ensures text { (past : List Entry) → StandsFor registry.old past → OnOk result (out.new.items ≡ out.old.items ++ replies_text past events.items) }
+    ensures text { (past : List Entry) → StandsFor registry.old past → OnOk result (string_bytes out.new ≡ string_bytes out.old ++ replies_text past events.items) }
     ensures logs { (past : List Entry) → StandsFor registry.old past → logs.old.items ≡ map log_of (held past) → OnOk result (logs.new.items ≡ map log_of (held (past ++ entries_of events.items))) }
     ensures part { (past : List Entry) → StandsFor registry.old past → (count : ℕ) × StandsFor registry.new (past ++ entries_of (take count events.items)) }
 {
@@ -77,12 +76,11 @@ fn piece_at(pieces: &Pieces, place: usize) -> &Piece
 }
 
 /// Adds the lines of pieces.
-fn push_pieces(alloc: Global, pieces: &Pieces, out: &mut Vec<u8>) -> Result<(), AllocError>
-    ensures { OnOk result (out.new.items ≡ out.old.items ++ flat_map piece_text pieces.now) }
+fn push_pieces(alloc: Global, pieces: &Pieces, out: &mut String) -> Result<(), AllocError>
+    ensures { OnOk result (string_bytes out.new ≡ string_bytes out.old ++ flat_map piece_text pieces.now) }
 {
     for place in 0..pieces.len() {
-        let line = write_piece(alloc, piece_at(pieces, place))?;
-        out.extend_from_slice(line.bytes())?;
+        add_piece(alloc, out, piece_at(pieces, place))?;
     }
     Ok(())
 }
@@ -145,17 +143,15 @@ fn push_whole(
     log: &Log,
     more: &Pieces,
     ended: Option<EndCause>,
-    out: &mut Vec<u8>,
+    out: &mut String,
 ) -> Result<(), AllocError>
-    ensures { OnOk result (out.new.items ≡ out.old.items ++ whole_text number log.now more.now ended) }
+    ensures { OnOk result (string_bytes out.new ≡ string_bytes out.old ++ whole_text number log.now more.now ended) }
 {
-    let head = write_hold(alloc, number, log.kind)?;
-    out.extend_from_slice(head.bytes())?;
+    add_hold(alloc, out, number, log.kind)?;
     push_pieces(alloc, &log.pieces, out)?;
     push_pieces(alloc, more, out)?;
     let bytes = joined(alloc, &log.pieces, more)?;
-    let end = write_end(alloc, &bytes, position_of(log, more), ended)?;
-    out.extend_from_slice(end.bytes())
+    add_end(alloc, out, &bytes, position_of(log, more), ended)
 }
 
 /// The end of a hold: that of its release, or that which the registry knows.
@@ -174,9 +170,9 @@ fn push_log(
     registry: &Registry,
     number: u64,
     log: &Log,
-    out: &mut Vec<u8>,
+    out: &mut String,
 ) -> Result<(), AllocError>
-    ensures { (past : List Entry) (h : Held) → StandsFor registry.now past → slice_get (held past) number ≡ Some h → log.now ≡ log_of h → OnOk result (out.new.items ≡ out.old.items ++ log_text number h) }
+    ensures { (past : List Entry) (h : Held) → StandsFor registry.now past → slice_get (held past) number ≡ Some h → log.now ≡ log_of h → OnOk result (string_bytes out.new ≡ string_bytes out.old ++ log_text number h) }
 {
     let more = registry.pending(number)?;
     let ended = end_of(registry, number, log);
@@ -188,9 +184,9 @@ fn push_logs(
     alloc: Global,
     registry: &Registry,
     logs: &[Log],
-    out: &mut Vec<u8>,
+    out: &mut String,
 ) -> Result<(), AllocError>
-    ensures { (past : List Entry) → StandsFor registry.now past → logs.now ≡ map log_of (held past) → OnOk result (out.new.items ≡ out.old.items ++ logs_text 0 (held past)) }
+    ensures { (past : List Entry) → StandsFor registry.now past → logs.now ≡ map log_of (held past) → OnOk result (string_bytes out.new ≡ string_bytes out.old ++ logs_text 0 (held past)) }
 {
     for (place, log) in logs.iter().enumerate() {
         push_log(alloc, registry, place as u64, log, out)?;
@@ -203,13 +199,13 @@ pub fn play(
     alloc: Global,
     registry: &mut Registry,
     events: Vec<Event>,
-    out: &mut Vec<u8>,
+    out: &mut String,
 ) -> Result<(), AllocError>
     requires fit { All (λ event. fits event ≡ true) events.items }
     requires few { length events.items < 2 ^ 61 }
     requires empty { StandsFor registry.old [] }
     ensures stands { OnOk result (StandsFor registry.new (entries_of events.items)) }
-    ensures text { OnOk result (out.new.items ≡ out.old.items ++ output events.items) }
+    ensures text { OnOk result (string_bytes out.new ≡ string_bytes out.old ++ output events.items) }
     ensures part { (count : ℕ) × StandsFor registry.new (entries_of (take count events.items)) }
 {
     let mut logs = Vec::new(alloc);

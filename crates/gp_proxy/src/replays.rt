@@ -50,9 +50,9 @@ pub fn played(alloc: Global, registry: &mut Registry, events: Vec<Event>) -> Res
     ensures part { (count : ℕ) × StandsFor registry.new (entries_of (take count events.items)) }
     ensures err { IfErr result (λ status. status ≡ Status.NoMemory) }
 {
-    let mut text = Vec::new(alloc);
+    let mut text = String::new(alloc);
     match play(alloc, registry, events, &mut text) {
-        Ok(()) => Ok(text),
+        Ok(()) => Ok(text.into_bytes()),
         Err(_) => Err(Status::NoMemory),
     }
 }

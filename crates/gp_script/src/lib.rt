@@ -16,7 +16,10 @@ mod words;
 pub use events::write_line;
 pub use fault::LineFault;
 pub use read::read_line;
-pub use texts::{write_end, write_hold, write_piece, write_reply, write_report};
+pub use texts::{
+    add_end, add_hold, add_piece, add_reply, write_end, write_hold, write_piece, write_reply,
+    write_report,
+};
 
 #[cfg(test)]
 mod tests;

@@ -1,4 +1,4 @@
-ghost use Rattle.std.specs.Prelude.{◌≡◌, ◌++◌, ◌∷◌, IfOk, OnOk, option_map, string_bytes, codes};
+ghost use Rattle.std.specs.Prelude.{◌≡◌, ◌++◌, ◌∷◌, [], IfOk, OnOk, option_map, string_bytes, codes};
 ghost use Rattle.std.specs.Fmt.{decimal};
 ghost use Rattle.std.specs.List.{list_all};
 ghost use Rattle.gp_script.specs.Spelling.{is_plain, word, id_word, names_word, spell};
@@ -20,7 +20,8 @@ const ESCAPED: AsciiSet = ascii_set!(
 /// How many bytes a line has room for at first. Most lines are shorter.
 const ROOM: usize = 64;
 
-/// A line that is being written: words parted by one space. Contracts see its bytes.
+/// A line that is being written, words parted by one space, behind what was written before it. Contracts see all the
+/// bytes.
 #[derive(Drop)]
 pub struct Line {
     text: String,
@@ -74,11 +75,33 @@ fn push_names(text: &mut String, names: &[Name]) -> Result<(), AllocError>
 }
 
 impl Line {
+    /// No word yet, behind a text.
+    pub fn behind(text: String) -> Line
+        ensures { result ≡ string_bytes text }
+    {
+        Line { text }
+    }
+
+    /// No word yet, behind nothing.
+    pub fn empty(alloc: Global) -> Result<Line, AllocError>
+        ensures { IfOk result (λ line. line ≡ []) }
+    {
+        let text = String::with_capacity(alloc, ROOM)?;
+        Ok(Line { text })
+    }
+
     /// A line of one word.
     pub fn new(alloc: Global, first: &str) -> Result<Line, AllocError>
         ensures { IfOk result (λ line. line ≡ first.now) }
     {
-        let mut text = String::with_capacity(alloc, ROOM)?;
+        Line::empty(alloc)?.begun(first)
+    }
+
+    /// The line begun with a word.
+    pub fn begun(self, first: &str) -> Result<Line, AllocError>
+        ensures { IfOk result (λ line. line ≡ self ++ first.now) }
+    {
+        let mut text = self.text;
         text.push_str(first)?;
         Ok(Line { text })
     }
@@ -149,12 +172,12 @@ impl Line {
         Body::from_vec(self.text.into_bytes())
     }
 
-    /// The bytes of the line with a line feed.
-    pub fn ended(self) -> Result<Body, AllocError>
-        ensures { IfOk result (λ body. body ≡ self ++ codes "\n") }
+    /// The text with the line and its line feed.
+    pub fn ended(self) -> Result<String, AllocError>
+        ensures { IfOk result (λ text. string_bytes text ≡ self ++ codes "\n") }
     {
         let mut text = self.text;
         text.push('\n')?;
-        Ok(Body::from_vec(text.into_bytes()))
+        Ok(text)
     }
 }

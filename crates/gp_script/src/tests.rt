@@ -1,5 +1,6 @@
 use crate::{
-    LineFault, read_line, write_end, write_hold, write_line, write_piece, write_reply, write_report,
+    LineFault, add_end, add_hold, add_piece, add_reply, read_line, write_end, write_hold,
+    write_line, write_piece, write_reply, write_report,
 };
 use gp_plain::{
     Body, EndCause, Event, Field, HoldKind, HoldReport, HoldSpec, Item, ItemId, List, Message,
@@ -557,5 +558,18 @@ fn logs_and_reports_have_their_lines(rt: HostRuntime) -> Result<(), Fail> {
     };
     let written = write_report(alloc, &report)?;
     assert_eq!(rt; written.bytes(), b"hold 3 plain 2 40 ! gap\n".as_slice());
+    Ok(())
+}
+
+#[test]
+fn lines_are_added_behind_a_text(rt: HostRuntime) -> Result<(), Fail> {
+    let alloc = rt.alloc();
+    let mut text = String::new(alloc);
+    add_reply(alloc, &mut text, &Reply::Published(1))?;
+    add_hold(alloc, &mut text, 0, HoldKind::Stream)?;
+    add_piece(alloc, &mut text, &item_piece(alloc, "b", "X Y", false)?)?;
+    add_end(alloc, &mut text, &body(alloc, "X Y")?, None, None)?;
+    let lines = "published 1\nhold 0 stream\nitem b X%20Y\ntext X%20Y\nlive !\n";
+    assert_eq!(rt; text.as_str(), lines);
     Ok(())
 }

@@ -1,4 +1,4 @@
-use Rattle.std.proofs.Common.{◌∙◌, ◌++◌, [], ap, append_assoc, arith}
+use Rattle.std.proofs.Common.{string_bytes, ◌∙◌, ◌++◌, [], ap, append_assoc, arith}
 use Rattle.std.proofs.lemmas.Result.{on_ok_weaker}
 use Rattle.gp_plain.specs.History.{held}
 use Rattle.gp_plain.specs.Standing.{Standing}
@@ -14,7 +14,7 @@ pub returns-clause-text : goal.returns-clause-text
 returns-clause-text c =
     let events = c.args.events.items in
     let entries = entries_of events in
-    let out = c.args.out.now.items in
+    let out = string_bytes c.args.out.now in
     let logs = c.as_slice.ensures.value ∙ c.in_ok-play_events.ensures.logs [] c.requires.empty c.new-logs.ensures.items in
     on_ok_weaker c.push_logs.result
     (λ e. e ∙ ap (λ o. o ++ logs_text 0 (held entries)) (c.in_ok-play_events.ensures.text [] c.requires.empty) ∙ append_assoc out (replies_text [] events) (logs_text 0 (held entries)))

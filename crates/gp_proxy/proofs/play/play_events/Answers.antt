@@ -1,4 +1,4 @@
-use Rattle.std.proofs.Common.{◌∷◌, ◌++◌, [], List, sym, ap, ◌∙◌, subst, append_assoc, arith, length-append, map}
+use Rattle.std.proofs.Common.{string_bytes, ◌∷◌, ◌++◌, [], List, sym, ap, ◌∙◌, subst, append_assoc, arith, length-append, map}
 use Rattle.gp_plain.specs.declared.event.Entry.{Entry}
 use Rattle.gp_plain.specs.History.{held, reply}
 use Rattle.gp_plain.specs.Standing.{StandsFor}
@@ -20,8 +20,8 @@ loop-event-preserved c =
       text = λ past at.
           c.in_ok-play_one.ensures.text (past ++ entries_of c.loop-event.yielded) (c.loop-event.invariant.stands past at)
           ∙ ap (λ t. t ++ reply_text (reply (past ++ entries_of c.loop-event.yielded) 0 c.in-Some.event)) (c.loop-event.invariant.text past at)
-          ∙ append_assoc c.args.out.now.items (replies_text past c.loop-event.yielded) (reply_text (reply (past ++ entries_of c.loop-event.yielded) 0 c.in-Some.event))
-          ∙ ap (λ t. c.args.out.now.items ++ t) (sym (replies_text-push past c.loop-event.yielded c.in-Some.event));
+          ∙ append_assoc (string_bytes c.args.out.now) (replies_text past c.loop-event.yielded) (reply_text (reply (past ++ entries_of c.loop-event.yielded) 0 c.in-Some.event))
+          ∙ ap (λ t. string_bytes c.args.out.now ++ t) (sym (replies_text-push past c.loop-event.yielded c.in-Some.event));
       logs = λ past at are.
           c.in_ok-play_one.ensures.logs (past ++ entries_of c.loop-event.yielded) (c.loop-event.invariant.stands past at) (c.loop-event.invariant.logs past at are)
           ∙ ap (λ (entries : List Entry). map log_of (held entries)) (entries_of-push past c.loop-event.yielded c.in-Some.event);

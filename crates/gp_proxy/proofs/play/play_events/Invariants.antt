@@ -1,4 +1,4 @@
-use Rattle.std.proofs.Common.{◌≡◌, ◌+◌, ◌≤◌, ◌++◌, List, length, map}
+use Rattle.std.proofs.Common.{string_bytes, ◌≡◌, ◌+◌, ◌≤◌, ◌++◌, List, length, map}
 use Rattle.gp_plain.specs.declared.event.Entry.{Entry}
 use Rattle.gp_plain.specs.History.{held}
 use Rattle.gp_plain.specs.Standing.{StandsFor}
@@ -11,6 +11,6 @@ abbrev pub invariant-loop-event : goal.invariant-loop-event
 invariant-loop-event l = record {
   next : l.registry.next ≤ l.initial.registry.next + length l.yielded;
   stands : (past : List Entry) → StandsFor l.initial.registry past → StandsFor l.registry (past ++ entries_of l.yielded);
-  text : (past : List Entry) → StandsFor l.initial.registry past → l.out.items ≡ l.initial.out.items ++ replies_text past l.yielded;
+  text : (past : List Entry) → StandsFor l.initial.registry past → string_bytes l.out ≡ string_bytes l.initial.out ++ replies_text past l.yielded;
   logs : (past : List Entry) → StandsFor l.initial.registry past → l.initial.logs.items ≡ map log_of (held past) → l.logs.items ≡ map log_of (held (past ++ entries_of l.yielded));
 }

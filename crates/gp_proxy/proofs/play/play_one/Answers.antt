@@ -1,5 +1,6 @@
-use Rattle.std.proofs.Common.{◌∙◌, ◌++◌, ap, inr}
+use Rattle.std.proofs.Common.{string_bytes, ◌∙◌, ◌++◌, ap, inr}
 use Rattle.std.proofs.lemmas.Result.{on_ok_weaker}
+use Rattle.gp_plain.specs.declared.reply.Reply.{Reply}
 use Rattle.gp_script.specs.Texts.{reply_text}
 use Rattle.gp_proxy.proofs.Lists.{on_ok_given}
 use Rattle.gp_proxy.proofs.Plays.{logs_after}
@@ -11,7 +12,7 @@ returns-clause-logs c = λ past at are.
 
 pub returns-clause-text : goal.returns-clause-text
 returns-clause-text c = λ past at.
-    on_ok_given c.note.result (c.in_ok-extend_from_slice.ensures.items ∙ ap (λ t. c.args.out.now.items ++ t) (c.bytes.ensures ∙ c.in_ok-line.ensures ∙ ap reply_text (c.in-Ok.ensures.reply past at).0))
+    on_ok_given c.note.result (c.in_ok-add_reply.ensures ∙ ap (λ (r : Reply). string_bytes c.args.out.now ++ reply_text r) (c.in-Ok.ensures.reply past at).0)
 
 pub returns-clause-stands : goal.returns-clause-stands
 returns-clause-stands c = λ past at. on_ok_given c.note.result (c.in-Ok.ensures.reply past at).1

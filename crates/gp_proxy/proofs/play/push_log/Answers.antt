@@ -1,4 +1,4 @@
-use Rattle.std.proofs.Common.{◌∙◌, ◌++◌, List, ap}
+use Rattle.std.proofs.Common.{string_bytes, ◌∙◌, ◌++◌, List, ap}
 use Rattle.std.proofs.lemmas.Result.{on_ok_weaker}
 use Rattle.gp_plain.specs.declared.reply.Piece.{Piece}
 use Rattle.gp_plain.specs.History.{held, pending_at, cause_at}
@@ -10,7 +10,7 @@ use Rattle.gp_proxy.proofs.play.push_log.Goals as goal
 
 pub returns : goal.returns
 returns c = λ past h at here is.
-    let out = c.args.out.now.items in
+    let out = string_bytes c.args.out.now in
     let number = c.args.number in
     let holds = held past in
     on_ok_weaker c.push_whole.result

@@ -1,4 +1,4 @@
-use Rattle.std.proofs.Common.{◌≡◌, ◌++◌, List, map, take}
+use Rattle.std.proofs.Common.{string_bytes, ◌≡◌, ◌++◌, List, map, take}
 use Rattle.gp_plain.specs.declared.event.Entry.{Entry}
 use Rattle.gp_plain.specs.History.{held}
 use Rattle.gp_plain.specs.Standing.{StandsFor}
@@ -7,4 +7,4 @@ use Rattle.gp_proxy.specs.Outputs.{logs_text}
 use Rattle.gp_proxy.proofs.play.push_logs.Given as goal
 
 abbrev pub invariant-loop-place : goal.invariant-loop-place
-invariant-loop-place l = (past : List Entry) → StandsFor l.registry past → l.logs ≡ map log_of (held past) → l.out.items ≡ l.initial.out.items ++ logs_text 0 (take l.place (held past))
+invariant-loop-place l = (past : List Entry) → StandsFor l.registry past → l.logs ≡ map log_of (held past) → string_bytes l.out ≡ string_bytes l.initial.out ++ logs_text 0 (take l.place (held past))

@@ -1,4 +1,4 @@
-use Rattle.std.proofs.Common.{◌∙◌, ◌++◌, sym, ap, take, append_assoc, add-one, arith}
+use Rattle.std.proofs.Common.{string_bytes, ◌∙◌, ◌++◌, sym, ap, take, append_assoc, add-one, arith}
 use Rattle.std.specs.List.{flat_map}
 use Rattle.std.proofs.lemmas.List.{take_all}
 use Rattle.gp_script.specs.Texts.{piece_text}
@@ -7,16 +7,15 @@ use Rattle.gp_proxy.proofs.play.push_pieces.Goals as goal
 
 pub returns : goal.returns
 returns c =
-    c.loop-place.invariant ∙ ap (λ ps. c.args.out.now.items ++ flat_map piece_text ps) (take_all c.loop-place.place c.args.pieces.now (omega (arith, c.len-place-end.ensures)))
+    c.loop-place.invariant ∙ ap (λ ps. string_bytes c.args.out.now ++ flat_map piece_text ps) (take_all c.loop-place.place c.args.pieces.now (omega (arith, c.len-place-end.ensures)))
 
 pub loop-place-preserved : goal.loop-place-preserved
 loop-place-preserved c =
     let pieces = c.args.pieces.now in
     let place = c.loop-place.place in
     let more = flat_map_more piece_text pieces place c.piece_at.result.now c.piece_at.ensures in
-    c.in_ok-extend_from_slice.ensures.items
-    ∙ ap (λ t. c.loop-place.out.items ++ t) (c.bytes.ensures ∙ c.in_ok-line.ensures)
+    c.in_ok-add_piece.ensures
     ∙ ap (λ o. o ++ piece_text c.piece_at.result.now) c.loop-place.invariant
-    ∙ append_assoc c.args.out.now.items (flat_map piece_text (take place pieces)) (piece_text c.piece_at.result.now)
-    ∙ ap (λ t. c.args.out.now.items ++ t) (sym more)
-    ∙ ap (λ n. c.args.out.now.items ++ flat_map piece_text (take n pieces)) (sym (add-one place))
+    ∙ append_assoc (string_bytes c.args.out.now) (flat_map piece_text (take place pieces)) (piece_text c.piece_at.result.now)
+    ∙ ap (λ t. string_bytes c.args.out.now ++ t) (sym more)
+    ∙ ap (λ n. string_bytes c.args.out.now ++ flat_map piece_text (take n pieces)) (sym (add-one place))

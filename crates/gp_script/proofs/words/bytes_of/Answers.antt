@@ -14,11 +14,11 @@ onto_nothing xs ys none = ap (λ zs. zs ++ ys) none
 decoded : (c : goal.Joined-contains) → c.if-contains.bytes.items ≡ percent_decode c.args.word.now
 decoded c =
     elim c.if-contains.branch [
-      then-contains+in_ok-append_to w ↦
-        ap (λ v. v.items) w.bytes-is ∙ w.in_ok-append_to.ensures.ok ∙ onto_nothing _ _ c.in_ok-bytes.ensures.items ∙ c.percent_decode-decoded.ensures.bytes
-    | else-contains+in_ok-extend_from_slice w ↦
-        let none : list_any (λ b. eqb b 37) c.args.word.now ≡ false = sym c.contains.ensures.value ∙ w.if-contains.false in
-        ap (λ v. v.items) w.bytes-is ∙ w.in_ok-extend_from_slice.ensures.items ∙ onto_nothing _ _ c.in_ok-bytes.ensures.items ∙ sym (no_percent c.args.word.now none)
+      | then-contains+in_ok-append_to w ↦
+          ap (λ v. v.items) w.bytes-is ∙ w.in_ok-append_to.ensures.ok ∙ onto_nothing _ _ c.in_ok-bytes.ensures.items ∙ c.percent_decode-decoded.ensures.bytes
+      | else-contains+in_ok-extend_from_slice w ↦
+          let none : list_any (λ b. eqb b 37) c.args.word.now ≡ false = sym c.contains.ensures.value ∙ w.if-contains.false in
+          ap (λ v. v.items) w.bytes-is ∙ w.in_ok-extend_from_slice.ensures.items ∙ onto_nothing _ _ c.in_ok-bytes.ensures.items ∙ sym (no_percent c.args.word.now none)
     ]
 
 pub returns-clause-ok : goal.returns-clause-ok
