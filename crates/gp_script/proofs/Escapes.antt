@@ -78,6 +78,13 @@ percent_encode-word (b ∷ bs) h = percent_encode-is (b ∷ bs)
 
 -- ---- bytes that spell themselves
 
+not_not : (t : Bool) → not (not t) ≡ t
+not_not true = refl
+not_not false = refl
+
+pub kept-is : (b : ℕ) → not (should_percent_encode ESCAPED b) ≡ is_plain b
+kept-is b = ap not (escaped-is b) ∙ not_not (is_plain b)
+
 plain_spell : (bytes : List ℕ) → list_all is_plain bytes ≡ true → spell bytes ≡ bytes
 plain_spell [] plain = refl
 plain_spell (b ∷ bs) plain =

@@ -38,7 +38,7 @@ impl Model for Line {
 fn is_plain(byte: u8) -> bool
     ensures { result ≡ is_plain byte }
 {
-    byte.is_ascii_alphanumeric() || byte == b'-' || byte == b'.' || byte == b'_' || byte == b'~'
+    !ESCAPED.should_percent_encode(byte)
 }
 
 /// Whether bytes spell themselves.
