@@ -1,5 +1,5 @@
 -- Every reliable stream hold follows every chain that covers it, and leaves nothing of the window behind.
-use Rattle.std.proofs.Common.{◌≡◌, ℕ, zero, suc, ◌+◌, ◌-◌, ◌≤◌, Bool, true, false, cond, not, ◌&&◌, ◌||◌, nat_le, nat_lt, List, [], ◌∷◌, ◌++◌, length, map, drop, fold, eqb, refl, sym, ap, ◌∙◌, subst, arith, append_assoc, Option, Some, None, All, is_some, option_map}
+use Rattle.std.proofs.Common.{◌≡◌, ℕ, zero, suc, ◌+◌, ◌-◌, ◌≤◌, Bool, true, false, cond, not, ◌&&◌, ◌||◌, nat_le, List, [], ◌∷◌, ◌++◌, length, map, eqb, refl, sym, ap, ◌∙◌, subst, arith, append_assoc, Option, Some, None, All, is_some, option_map}
 use Rattle.std.specs.List.{AllByRecursion, list_any, find}
 use Rattle.std.specs.Option.{option_map_or}
 use Rattle.std.specs.Cmp.Lexicographic.{same_text}
@@ -11,7 +11,6 @@ use Rattle.std.proofs.lemmas.List.Folds.{list_any-append, list_any_none}
 use Rattle.gp_plain.specs.declared.item.Item.{Item}
 use Rattle.gp_plain.specs.declared.item.StreamPart.{StreamPart}
 use Rattle.gp_plain.specs.declared.event.Entry.{Entry}
-use Rattle.gp_plain.specs.declared.event.HoldKind.TheVariants.{Stream as StreamKind}
 use Rattle.gp_plain.specs.declared.event.HoldSpec.{HoldSpec}
 use Rattle.gp_plain.specs.declared.event.HoldSpec.TheVariants.{Stream, Plain, Response, Socket}
 use Rattle.gp_plain.specs.declared.reply.Piece.{Piece}
@@ -20,13 +19,13 @@ use Rattle.gp_plain.specs.declared.reply.EndCause.TheVariants.{Gap, Overflow}
 use Rattle.gp_plain.specs.Names.{same_id}
 use Rattle.gp_plain.specs.Items.{is_chained, is_id, comes_after, content_of, closes, is_on}
 use Rattle.gp_plain.specs.Follow.{last_items, is_heard, is_next, without_first, going_on, follow_within, follow}
-use Rattle.gp_plain.specs.Pieces.{piece_bytes, text, moved, id_or, closed_by, end_by, has_room, batch, left}
-use Rattle.gp_plain.specs.Holds.{Terms, State, Held, terms_of, is_live, added, run, marked, missed, gapped, can_ask, offered, shows_gap, leaves_gap, run_for, run_by, chain_run, comes_next, piece_of, piece_by, ends_by, settled, settled_if, grew, served, wants_more, opened, followers, caught_up, begun_state, begun, timed, asks, rest_of, after_take, taken_from, let_go, end_or_detached, log, position, ended}
-use Rattle.gp_plain.specs.History.{served_by, held, published, window}
+use Rattle.gp_plain.specs.Pieces.{piece_bytes, text, moved, id_or, closed_by, end_by, has_room, batch}
+use Rattle.gp_plain.specs.Holds.{Terms, State, Held, terms_of, is_live, added, run, marked, gapped, can_ask, offered, shows_gap, run_for, comes_next, piece_of, settled_if, grew, served, opened, begun_state, timed, rest_of, end_or_detached}
+use Rattle.gp_plain.specs.History.{held, published, window}
 use Rattle.gp_plain.specs.Chain.{Link, Chain, IsNoneOf, AreDistinct, bytes_of, last_id, IsIn, IsLinked, IsBetween, CoversIds, CoversItem, CoversHistory, NoneCloses, FollowsLog, CoversSpec, Follows, HasAll}
-use Rattle.gp_plain.proofs.Windows.{drop_all, all_snoc, all_front, all_last, window_more}
+use Rattle.gp_plain.proofs.Windows.{drop_all, all_front, all_last, window_more}
 use Rattle.gp_plain.proofs.Histories.{IsKept, in_each_history}
-use Rattle.gp_plain.proofs.Soundness.{Fits, run_fits, timed_fits, taken_again, sound}
+use Rattle.gp_plain.proofs.Soundness.{Fits, taken_again, sound}
 
 pub text-append : (ps qs : List Piece) → text (ps ++ qs) ≡ text ps ++ text qs
 text-append [] qs = refl

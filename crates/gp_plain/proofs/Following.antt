@@ -1,5 +1,5 @@
 -- A list without the items at used places, and what follows an id in it.
-use Rattle.std.proofs.Common.{◌≡◌, ℕ, zero, suc, ◌+◌, ◌<◌, Bool, true, false, cond, not, ◌&&◌, ◌||◌, List, [], ◌∷◌, ◌++◌, length, map, fold, eqb, slice_get, refl, sym, ap, ◌∙◌, subst, arith, add-zero, Option, Some, None, is_none, is_some}
+use Rattle.std.proofs.Common.{◌≡◌, ℕ, zero, suc, ◌+◌, ◌<◌, Bool, true, false, cond, not, ◌&&◌, ◌||◌, List, [], ◌∷◌, ◌++◌, length, map, eqb, slice_get, refl, sym, ap, ◌∙◌, arith, add-zero, Option, Some, None, is_none, is_some}
 use Rattle.std.specs.List.{list_any, find}
 use Rattle.std.specs.Option.{option_map_or}
 use Rattle.std.proofs.Math.Bool.{or-false}
@@ -7,7 +7,6 @@ use Rattle.std.proofs.lemmas.Bool.{eq-eqb}
 use Rattle.std.proofs.lemmas.Bool.Decides.{nat_tests}
 use Rattle.std.proofs.lemmas.List.Folds.{list_any-append}
 use Rattle.gp_plain.specs.declared.item.Item.{Item}
-use Rattle.gp_plain.specs.declared.item.StreamPart.{StreamPart}
 use Rattle.gp_plain.specs.declared.item.ResponsePart.{ResponsePart}
 use Rattle.gp_plain.specs.declared.event.HoldKind.{HoldKind}
 use Rattle.gp_plain.specs.declared.event.HoldKind.TheVariants.{Stream, Plain, Response, Socket}
@@ -16,11 +15,11 @@ use Rattle.gp_plain.specs.declared.reply.EndCause.{EndCause}
 use Rattle.gp_plain.specs.declared.reply.EndCause.TheVariants.{Overflow}
 use Rattle.gp_plain.specs.Items.{comes_after, is_on, closes}
 use Rattle.gp_plain.specs.Tails.{is_next_at, IsNextAfter, IsNoNextAfter}
-use Rattle.gp_plain.specs.Follow.{is_heard, is_next, without_first, going_on, follow_within, follow}
+use Rattle.gp_plain.specs.Follow.{is_next, without_first, going_on, follow_within, follow}
 use Rattle.gp_plain.specs.Pieces.{id_or, end_by, closed_by, has_room}
-use Rattle.gp_plain.specs.Holds.{piece_of, piece_by, answer_or, answer_of, ends_by, followers}
+use Rattle.gp_plain.specs.Holds.{piece_by, answer_or, ends_by}
 use Rattle.gp_plain.specs.Growth.{Growth, with_piece, with_pieces}
-use Rattle.gp_plain.proofs.ChainLaw.{shorter, absurd_true, and_left, and_right}
+use Rattle.gp_plain.proofs.ChainLaw.{shorter, absurd_true}
 
 abbrev pub is_used : List ℕ → ℕ → Bool
 is_used used place = list_any (λ (other : ℕ). eqb other place) used

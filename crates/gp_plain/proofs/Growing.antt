@@ -1,6 +1,5 @@
 -- A run that is made before is the run that is added.
-use Rattle.std.proofs.Common.{◌≡◌, ℕ, ◌+◌, ◌≤◌, ◌<◌, ◌==◌, Bool, true, false, cond, not, ◌&&◌, ◌||◌, nat_lt, List, [], ◌∷◌, ◌++◌, length, fold, filter, refl, sym, ap, ◌∙◌, subst, arith, append_assoc, length-append, Option, Some, None, is_none, is_some, option_map}
-use Rattle.std.specs.List.{list_any}
+use Rattle.std.proofs.Common.{◌≡◌, ℕ, ◌+◌, ◌==◌, Bool, true, false, cond, not, nat_lt, List, [], ◌∷◌, ◌++◌, length, fold, filter, refl, sym, ap, ◌∙◌, arith, append_assoc, length-append, Option, Some, None, is_none, is_some, option_map}
 use Rattle.std.proofs.Math.Bool.{or-false}
 use Rattle.std.proofs.lemmas.Bool.Decides.{nat_tests}
 use Rattle.std.proofs.lemmas.List.{append-nil}
@@ -13,12 +12,12 @@ use Rattle.gp_plain.specs.declared.plan.Plan.{Plan}
 use Rattle.gp_plain.specs.declared.plan.Plan.TheVariants.{Nothing, Gap, Grow}
 use Rattle.gp_plain.specs.Items.{is_on}
 use Rattle.gp_plain.specs.Follow.{is_heard}
-use Rattle.gp_plain.specs.Tails.{ahead, on_channel}
+use Rattle.gp_plain.specs.Tails.{on_channel}
 use Rattle.gp_plain.specs.Pieces.{moves_to, moved, id_or, position_after, end_by, has_room}
 use Rattle.gp_plain.specs.Roomy.{roomy}
 use Rattle.gp_plain.specs.Holds.{State, is_live, added, run, grew}
-use Rattle.gp_plain.specs.Growth.{Growth, no_growth, with_piece, with_pieces, end_or, grown, some_or, last_of, last_id_of, IsReady}
-use Rattle.gp_plain.specs.Plans.{Machine, with_plan, grows, IsPlanReady, IsMadeOf, IsPlanned}
+use Rattle.gp_plain.specs.Growth.{Growth, no_growth, with_piece, with_pieces, end_or, grown, some_or, last_of, last_id_of}
+use Rattle.gp_plain.specs.Plans.{Machine, IsMadeOf, IsPlanned}
 
 position_push : (at : Option (List ℕ)) (ps : List Piece) (p : Piece) → option_map (λ (a : List ℕ). moved a p) (option_map (λ (a : List ℕ). position_after a ps) at) ≡ option_map (λ (a : List ℕ). position_after a (ps ++ p ∷ [])) at
 position_push None ps p = refl

@@ -1,15 +1,14 @@
 -- What an item does to a live hold, by what it says to it.
-use Rattle.std.proofs.Common.{◌≡◌, ℕ, ◌+◌, Bool, true, false, cond, ◌&&◌, nat_le, nat_lt, List, [], ◌∷◌, length, refl, sym, ap, ◌∙◌, subst, Option, Some, None, is_some}
+use Rattle.std.proofs.Common.{◌≡◌, Bool, true, false, cond, ◌&&◌, nat_lt, List, [], length, refl, sym, ap, ◌∙◌, subst, None}
 use Rattle.gp_plain.specs.declared.item.Item.{Item}
 use Rattle.gp_plain.specs.declared.reply.Piece.{Piece}
-use Rattle.gp_plain.specs.declared.reply.EndCause.{EndCause}
 use Rattle.gp_plain.specs.declared.plan.Plan.{Plan}
-use Rattle.gp_plain.specs.declared.plan.Plan.TheVariants.{Nothing, Gap, Grow}
+use Rattle.gp_plain.specs.declared.plan.Plan.TheVariants.{Nothing, Gap}
 use Rattle.gp_plain.specs.Follow.{is_heard}
 use Rattle.gp_plain.specs.Roomy.{roomy}
-use Rattle.gp_plain.specs.Holds.{State, run, run_by, run_for, leaves_gap, shows_gap, can_ask, marked, missed, gapped, offered, grew}
+use Rattle.gp_plain.specs.Holds.{State, run, run_by, leaves_gap, can_ask, marked, missed, gapped, offered, grew}
 use Rattle.gp_plain.specs.Growth.{Growth, no_growth, with_pieces}
-use Rattle.gp_plain.specs.Plans.{Machine, with_plan, grows, IsPlanReady, IsMadeOf, IsPlanned}
+use Rattle.gp_plain.specs.Plans.{Machine, IsMadeOf, IsPlanned}
 use Rattle.gp_plain.proofs.Growing.{plan_is, nothing_is, not_less}
 
 offered_eq : (item : Item) (window : List Item) (s : State) (heard gap : Bool) → is_heard s.terms.channels item ≡ heard → leaves_gap item s.position ≡ gap

@@ -1,11 +1,9 @@
 -- The same items in another order leave a hold where it was.
-use Rattle.std.proofs.Common.{◌≡◌, ℕ, zero, suc, ◌+◌, ◌-◌, ◌<◌, ◌≤◌, Bool, true, false, cond, not, ◌&&◌, ◌||◌, ◌==◌, List, [], ◌∷◌, ◌++◌, length, map, fold, drop, slice_get, eqb, refl, sym, ap, ◌∙◌, subst, arith, append_assoc, Option, Some, None, All, IsPermutation, is_some, option_map}
-use Rattle.std.specs.List.{AllByRecursion, list_any, flat_map}
+use Rattle.std.proofs.Common.{◌≡◌, ℕ, zero, suc, ◌-◌, ◌<◌, ◌≤◌, Bool, true, false, cond, not, ◌&&◌, ◌||◌, ◌==◌, List, [], ◌∷◌, ◌++◌, length, map, fold, drop, slice_get, refl, sym, ap, ◌∙◌, subst, arith, append_assoc, Option, Some, None, All, IsPermutation}
+use Rattle.std.specs.List.{AllByRecursion, list_any}
 use Rattle.std.specs.Cmp.Lexicographic.{same_text}
-use Rattle.std.proofs.Math.Bool.{or-false}
-use Rattle.std.proofs.lemmas.Bool.Decides.{nat_tests}
 use Rattle.std.proofs.lemmas.List.{append-nil, length-append}
-use Rattle.std.proofs.lemmas.List.Elements.{All-from_recursion, recursion_from_All}
+use Rattle.std.proofs.lemmas.List.Elements.{recursion_from_All}
 use Rattle.std.proofs.lemmas.List.Folds.{list_any-append}
 use Rattle.std.proofs.lemmas.List.Sorted.{list_any-IsPermutation, IsPermutation-sym}
 use Rattle.std.proofs.lemmas.List.Sums.{fold-append}
@@ -20,11 +18,11 @@ use Rattle.gp_plain.specs.Names.{same_id}
 use Rattle.gp_plain.specs.Items.{is_id, is_on, is_same}
 use Rattle.gp_plain.specs.Follow.{last_items, is_repeat}
 use Rattle.gp_plain.specs.Pieces.{text}
-use Rattle.gp_plain.specs.Holds.{State, Held, begun, taken_from, let_go, log, position, ended}
+use Rattle.gp_plain.specs.Holds.{State, Held, begun, taken_from, let_go}
 use Rattle.gp_plain.specs.History.{Past, has_place, changed, served_by, with_item, with_hold, after_event, after, nothing, past_of, held, published}
-use Rattle.gp_plain.specs.Chain.{Link, Chain, AreDistinct, bytes_of, last_id, IsIn, CoversItem, CoversHistory, CoversSpec}
+use Rattle.gp_plain.specs.Chain.{Link, Chain, AreDistinct, bytes_of, last_id, CoversItem, CoversHistory, CoversSpec}
 use Rattle.gp_plain.specs.Order.{sent_by, sent, are_apart, Attaches, AreFew, HaveSame}
-use Rattle.gp_plain.proofs.ChainLaw.{one_place, last_id-append, Came, Stands, Covered, Law, laws, nexts, none_any, and_left, and_right, and_both, same_ids, absurd_true}
+use Rattle.gp_plain.proofs.ChainLaw.{one_place, Came, Stands, Covered, Law, laws, nexts, none_any, and_left, and_right, same_ids, absurd_true}
 
 -- the specifications of holds stay, and new ones come last
 

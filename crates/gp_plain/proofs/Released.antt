@@ -1,5 +1,5 @@
 -- A released hold has ended.
-use Rattle.std.proofs.Common.{◌≡◌, ℕ, Bool, true, false, cond, not, ◌||◌, nat_le, List, [], ◌∷◌, ◌++◌, refl, sym, ap, ◌∙◌, Option, Some, None, is_some}
+use Rattle.std.proofs.Common.{◌≡◌, ℕ, Bool, true, false, cond, not, ◌||◌, nat_le, List, [], ◌∷◌, ◌++◌, refl, sym, ◌∙◌, Option, Some, None, is_some}
 use Rattle.std.specs.List.{AllByRecursion}
 use Rattle.gp_plain.specs.declared.item.Item.{Item}
 use Rattle.gp_plain.specs.declared.event.Entry.{Entry}
@@ -8,8 +8,8 @@ use Rattle.gp_plain.specs.declared.reply.EndCause.{EndCause}
 use Rattle.gp_plain.specs.declared.reply.EndCause.TheVariants.{TimedOut, Retry}
 use Rattle.gp_plain.specs.Pieces.{left}
 use Rattle.gp_plain.specs.Follow.{last_items}
-use Rattle.gp_plain.specs.Holds.{State, Held, is_live, offered, settled_if, grew, served, begun, timed, ends_now, taken_of, after_take, taken_from, let_go}
-use Rattle.gp_plain.specs.History.{served_by, held, published}
+use Rattle.gp_plain.specs.Holds.{State, Held, is_live, offered, settled_if, grew, timed, ends_now, taken_of, after_take}
+use Rattle.gp_plain.specs.History.{held}
 use Rattle.gp_plain.proofs.ChainLaw.{absurd_true}
 use Rattle.gp_plain.proofs.Histories.{IsKept, in_each_history}
 

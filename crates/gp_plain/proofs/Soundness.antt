@@ -1,5 +1,5 @@
 -- The position of a hold is the one behind its log, and its terms are those that it was attached with.
-use Rattle.std.proofs.Common.{◌≡◌, ℕ, Bool, true, false, cond, not, nat_le, List, [], ◌∷◌, ◌++◌, fold, refl, sym, ap, ◌∙◌, append_assoc, Option, Some, None, is_some, option_map}
+use Rattle.std.proofs.Common.{◌≡◌, ℕ, Bool, true, false, cond, nat_le, List, [], ◌∷◌, ◌++◌, refl, sym, ap, ◌∙◌, append_assoc, Option, Some, None, option_map}
 use Rattle.std.specs.List.{AllByRecursion}
 use Rattle.std.specs.Option.{option_map_or}
 use Rattle.std.proofs.lemmas.List.{take-append-drop}
@@ -9,12 +9,11 @@ use Rattle.gp_plain.specs.declared.event.Entry.{Entry}
 use Rattle.gp_plain.specs.declared.event.HoldSpec.{HoldSpec}
 use Rattle.gp_plain.specs.declared.event.HoldSpec.TheVariants.{Stream, Plain, Response, Socket}
 use Rattle.gp_plain.specs.declared.reply.Piece.{Piece}
-use Rattle.gp_plain.specs.declared.reply.Piece.TheVariants.{Opening}
 use Rattle.gp_plain.specs.declared.reply.EndCause.TheVariants.{Overflow, TimedOut, Retry}
 use Rattle.gp_plain.specs.Pieces.{moved, position_after, end_by, has_room, batch_count, batch, left}
 use Rattle.gp_plain.specs.Follow.{last_items}
-use Rattle.gp_plain.specs.Holds.{Terms, State, Held, terms_of, openings, start_of, position_of, is_live, added, run, marked, missed, gapped, can_ask, offered, shows_gap, run_for, settled, settled_if, grew, served, wants_more, opened, followers, caught_up, begun_state, begun, timed, asks, taken_of, rest_of, after_take, taken_from, let_go, log, position}
-use Rattle.gp_plain.specs.History.{served_by, held, published}
+use Rattle.gp_plain.specs.Holds.{State, Held, terms_of, start_of, position_of, is_live, added, run, marked, missed, gapped, can_ask, offered, shows_gap, run_for, settled_if, grew, opened, followers, begun_state, timed, rest_of}
+use Rattle.gp_plain.specs.History.{held, published}
 use Rattle.gp_plain.proofs.Histories.{IsKept, in_each_history}
 
 -- a state of a hold that was attached with a specification, and from which pieces were taken

@@ -1,5 +1,5 @@
 -- A run of pieces that is made before the hold that it is for is changed.
-use Rattle.std.specs.Prelude.{ℕ, ◌+◌, ◌-◌, ◌≤◌, ◌==◌, Bool, cond, List, [], ◌∷◌, ◌++◌, length, sum_by, fold, Option, Some, None, is_none, option_map}
+use Rattle.std.specs.Prelude.{ℕ, ◌+◌, ◌≤◌, ◌==◌, cond, List, [], ◌∷◌, ◌++◌, length, sum_by, fold, Option, Some, None, is_none, option_map}
 use Rattle.gp_plain.specs.Roomy.{Roomy}
 use Rattle.gp_plain.specs.Pieces.{weight, moves_to, position_after, end_by, has_room}
 use Rattle.gp_plain.specs.Holds.{State}

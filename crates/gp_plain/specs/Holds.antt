@@ -15,7 +15,7 @@ use Rattle.gp_plain.specs.declared.event.HoldSpec.TheVariants.{Stream, Plain, Re
 use Rattle.gp_plain.specs.declared.reply.Piece.{Piece}
 use Rattle.gp_plain.specs.declared.reply.Piece.TheVariants.{Opening, Item as ItemPiece, Answer as AnswerPiece}
 use Rattle.gp_plain.specs.declared.reply.EndCause.{EndCause}
-use Rattle.gp_plain.specs.declared.reply.EndCause.TheVariants.{Closed, Detached, Gap, Unrecovered, Overflow, Answered, Retry, TimedOut}
+use Rattle.gp_plain.specs.declared.reply.EndCause.TheVariants.{Detached, Gap, Overflow, Retry, TimedOut}
 use Rattle.gp_plain.specs.declared.reply.Taken.{Taken}
 
 -- what a hold listens to: its kind, its channels, whether missing items can be asked of the origin, and the deadline

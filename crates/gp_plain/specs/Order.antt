@@ -1,5 +1,5 @@
 -- What a hold gets doesn't depend on the order in which the same items are published.
-use Rattle.std.specs.Prelude.{ℕ, ◌≡◌, ◌<◌, ◌&&◌, IsPermutation, Bool, true, not, List, [], ◌∷◌, ◌++◌, length, slice_get, Option, Some, None, All}
+use Rattle.std.specs.Prelude.{ℕ, ◌≡◌, ◌<◌, ◌&&◌, IsPermutation, Bool, true, not, List, [], ◌∷◌, ◌++◌, length, slice_get, Some, None, All}
 use Rattle.std.specs.List.{flat_map}
 use Rattle.gp_plain.specs.Follow.{is_repeat}
 use Rattle.gp_plain.specs.Pieces.{text}

@@ -1,5 +1,5 @@
 -- What an item is to do to a hold, made before the hold is changed.
-use Rattle.std.specs.Prelude.{ℕ, ◌≡◌, ◌==◌, Bool, false, not, List, [], length, Option, None}
+use Rattle.std.specs.Prelude.{ℕ, ◌≡◌, ◌==◌, Bool, false, not, length, None}
 use Rattle.gp_plain.specs.Roomy.{Roomy, roomy}
 use Rattle.gp_plain.specs.Holds.{State, gapped, grew}
 use Rattle.gp_plain.specs.Growth.{Growth, grown, last_id_of, IsReady}

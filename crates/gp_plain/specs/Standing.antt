@@ -1,5 +1,5 @@
 -- What a registry keeps of a history.
-use Rattle.std.specs.Prelude.{ℕ, ◌≡◌, ◌+◌, Bool, cond, List, [], ◌∷◌, length}
+use Rattle.std.specs.Prelude.{ℕ, ◌≡◌, ◌+◌, cond, List, [], ◌∷◌, length}
 use Rattle.gp_plain.specs.Follow.{last_items}
 use Rattle.gp_plain.specs.Holds.{State, Held}
 use Rattle.gp_plain.specs.History.{Past, past_of}

@@ -1,4 +1,4 @@
-ghost use Rattle.std.specs.Prelude.{◌≡◌, ◌++◌, ◌∷◌, [], IfOk, OnOk, codes, option_map, string_bytes};
+ghost use Rattle.std.specs.Prelude.{◌≡◌, ◌++◌, ◌∷◌, [], IfOk, OnErr, OnOk, codes, option_map, string_bytes};
 ghost use Rattle.gp_script.specs.Spelling.{joined, line_text, word};
 ghost use Rattle.gp_script.specs.Texts.{cause_word, close_words, end_text, end_word, hold_text, hold_words, kind_word, message_words, piece_text, piece_words, reply_text, reply_words, report_text, report_words, taken_words};
 
@@ -16,7 +16,8 @@ fn body(line: Line) -> Result<Body, AllocError>
 
 /// The text, which is left without a byte.
 fn moved_out(alloc: Global, text: &mut String) -> String
-    ensures { string_bytes result ≡ string_bytes text.old }
+    ensures moved { string_bytes result ≡ string_bytes text.old }
+    ensures left { string_bytes text.new ≡ [] }
 {
     replace(text, String::new(alloc))
 }
@@ -94,9 +95,11 @@ pub fn write_reply(alloc: Global, reply: &Reply) -> Result<Body, AllocError>
     body(reply_line(Line::empty(alloc)?, reply)?)
 }
 
-/// Adds the line of a reply, with its line feed, to a text, in place. Where memory is wanting the text is lost.
+/// Adds the line of a reply, with its line feed, to a text, in place. Where memory is wanting
+/// the text is left empty.
 pub fn add_reply(alloc: Global, text: &mut String, reply: &Reply) -> Result<(), AllocError>
-    ensures { OnOk result (string_bytes text.new ≡ string_bytes text.old ++ reply_text reply.now) }
+    ensures ok { OnOk result (string_bytes text.new ≡ string_bytes text.old ++ reply_text reply.now) }
+    ensures err { OnErr result (string_bytes text.new ≡ []) }
 {
     let line = reply_line(Line::behind(moved_out(alloc, text)), reply)?;
     *text = line.ended()?;
@@ -155,9 +158,11 @@ pub fn write_piece(alloc: Global, piece: &Piece) -> Result<Body, AllocError>
     body(piece_line(Line::empty(alloc)?, piece)?)
 }
 
-/// Adds the line of a piece of a log, with its line feed, to a text, in place. Where memory is wanting the text is lost.
+/// Adds the line of a piece of a log, with its line feed, to a text, in place. Where memory is wanting
+/// the text is left empty.
 pub fn add_piece(alloc: Global, text: &mut String, piece: &Piece) -> Result<(), AllocError>
-    ensures { OnOk result (string_bytes text.new ≡ string_bytes text.old ++ piece_text piece.now) }
+    ensures ok { OnOk result (string_bytes text.new ≡ string_bytes text.old ++ piece_text piece.now) }
+    ensures err { OnErr result (string_bytes text.new ≡ []) }
 {
     let line = piece_line(Line::behind(moved_out(alloc, text)), piece)?;
     *text = line.ended()?;
@@ -205,7 +210,7 @@ pub fn write_end(
 }
 
 /// Adds the last two lines of a log to a text, in place, as `write_end` writes them: `pieces` is all the bytes of the
-/// log's pieces. Where memory is wanting the text is lost.
+/// log's pieces. Where memory is wanting the text is left empty.
 pub fn add_end(
     alloc: Global,
     text: &mut String,
@@ -213,7 +218,8 @@ pub fn add_end(
     position: Option<&ItemId>,
     ended: Option<EndCause>,
 ) -> Result<(), AllocError>
-    ensures { OnOk result (string_bytes text.new ≡ string_bytes text.old ++ end_text pieces.now (option_map (λ id. id.now) position.entry) ended) }
+    ensures ok { OnOk result (string_bytes text.new ≡ string_bytes text.old ++ end_text pieces.now (option_map (λ id. id.now) position.entry) ended) }
+    ensures err { OnErr result (string_bytes text.new ≡ []) }
 {
     let line = end_line(
         Line::behind(moved_out(alloc, text)),
@@ -238,14 +244,16 @@ pub fn write_hold(alloc: Global, number: u64, kind: HoldKind) -> Result<Body, Al
     body(hold_line(Line::empty(alloc)?, number, kind)?)
 }
 
-/// Adds the first line of a hold's log, with its line feed, to a text, in place. Where memory is wanting the text is lost.
+/// Adds the first line of a hold's log, with its line feed, to a text, in place. Where memory is wanting
+/// the text is left empty.
 pub fn add_hold(
     alloc: Global,
     text: &mut String,
     number: u64,
     kind: HoldKind,
 ) -> Result<(), AllocError>
-    ensures { OnOk result (string_bytes text.new ≡ string_bytes text.old ++ hold_text number kind) }
+    ensures ok { OnOk result (string_bytes text.new ≡ string_bytes text.old ++ hold_text number kind) }
+    ensures err { OnErr result (string_bytes text.new ≡ []) }
 {
     let line = hold_line(Line::behind(moved_out(alloc, text)), number, kind)?;
     *text = line.ended()?;

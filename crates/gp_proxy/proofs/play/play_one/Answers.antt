@@ -12,7 +12,7 @@ returns-clause-logs c = λ past at are.
 
 pub returns-clause-text : goal.returns-clause-text
 returns-clause-text c = λ past at.
-    on_ok_given c.note.result (c.in_ok-add_reply.ensures ∙ ap (λ (r : Reply). string_bytes c.args.out.now ++ reply_text r) (c.in-Ok.ensures.reply past at).0)
+    on_ok_given c.note.result (c.in_ok-add_reply.ensures.ok ∙ ap (λ (r : Reply). string_bytes c.args.out.now ++ reply_text r) (c.in-Ok.ensures.reply past at).0)
 
 pub returns-clause-stands : goal.returns-clause-stands
 returns-clause-stands c = λ past at. on_ok_given c.note.result (c.in-Ok.ensures.reply past at).1

@@ -14,7 +14,7 @@ loop-place-preserved c =
     let pieces = c.args.pieces.now in
     let place = c.loop-place.place in
     let more = flat_map_more piece_text pieces place c.piece_at.result.now c.piece_at.ensures in
-    c.in_ok-add_piece.ensures
+    c.in_ok-add_piece.ensures.ok
     ∙ ap (λ o. o ++ piece_text c.piece_at.result.now) c.loop-place.invariant
     ∙ append_assoc (string_bytes c.args.out.now) (flat_map piece_text (take place pieces)) (piece_text c.piece_at.result.now)
     ∙ ap (λ t. string_bytes c.args.out.now ++ t) (sym more)

@@ -1,4 +1,4 @@
-use Rattle.std.proofs.Common.{◌≡◌, sym, ◌∙◌, ap, subst, IfOk}
+use Rattle.std.proofs.Common.{◌≡◌, ◌∙◌, ap, subst, IfOk}
 use Rattle.gp_plain.specs.Growth.{Growth}
 use Rattle.gp_plain.specs.Pieces.{id_or, position_after}
 use Rattle.gp_plain.proofs.Growing.{last_is}
