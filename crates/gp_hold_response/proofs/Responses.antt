@@ -1,30 +1,29 @@
 -- What a response hold is, once it has grown, begun or planned.
-use Rattle.std.proofs.Common.{◌≡◌, ℕ, suc, arith, ◌==◌, Bool, true, false, cond, not, ◌&&◌, ◌||◌, List, [], ◌∷◌, ◌++◌, length, slice_get, refl, sym, ap, ◌∙◌, subst, Option, Some, None, Result, Ok, Err, IfOk, is_none, is_some, option_map}
+use Rattle.std.proofs.Common.{◌≡◌, ℕ, suc, arith, ◌==◌, Bool, true, false, cond, not, ◌&&◌, List, [], ◌∷◌, ◌++◌, length, slice_get, refl, sym, ap, ◌∙◌, Option, Some, None, Result, Ok, Err, IfOk, is_none, is_some}
 use Rattle.std.specs.Option.{option_map_or}
 use Rattle.std.proofs.lemmas.Bool.{eqb-true}
 use Rattle.gp_plain.specs.declared.item.Item.{Item}
 use Rattle.gp_plain.specs.declared.item.ResponsePart.{ResponsePart}
 use Rattle.gp_plain.specs.declared.event.HoldKind.{HoldKind}
 use Rattle.gp_plain.specs.declared.event.HoldKind.TheVariants.{Response as ResponseKind}
-use Rattle.gp_plain.specs.declared.event.HoldSpec.TheVariants.{Response}
 use Rattle.gp_plain.specs.declared.reply.Piece.{Piece}
 use Rattle.gp_plain.specs.declared.reply.EndCause.{EndCause}
 use Rattle.gp_plain.specs.declared.plan.Plan.{Plan}
 use Rattle.gp_plain.specs.declared.plan.Plan.TheVariants.{Nothing}
 use Rattle.gp_plain.specs.Fit.{fits_spec, fits_channels}
-use Rattle.gp_plain.specs.Items.{is_on, comes_after}
+use Rattle.gp_plain.specs.Items.{is_on}
 use Rattle.gp_plain.specs.Follow.{is_heard}
 use Rattle.gp_plain.specs.Tails.{ahead, on_channel}
 use Rattle.gp_plain.specs.Roomy.{roomy}
 use Rattle.gp_plain.specs.Pieces.{position_after, id_or}
-use Rattle.gp_plain.specs.Holds.{State, Terms, is_live, run, run_by, comes_next, leaves_gap, piece_by, ends_by, followers, answer_piece, answer_of, offered, opened, caught_up, begun_state, wants_more, is_ahead}
-use Rattle.gp_plain.specs.Growth.{Growth, no_growth, with_piece, with_pieces, end_or, grown, last_id_of}
-use Rattle.gp_plain.specs.Plans.{Machine, machine, IsMadeOf, IsPlanned}
+use Rattle.gp_plain.specs.Holds.{State, is_live, run_by, comes_next, leaves_gap, piece_by, ends_by, followers, answer_piece, answer_of, offered, opened, caught_up, begun_state, wants_more, is_ahead}
+use Rattle.gp_plain.specs.Growth.{Growth, no_growth, with_pieces, end_or, grown, last_id_of}
+use Rattle.gp_plain.specs.Plans.{Machine, IsMadeOf, IsPlanned}
 use Rattle.gp_plain.proofs.Growing.{run_is, or_none, state_is, heard_one, heard_channel, last_is}
 use Rattle.gp_plain.proofs.Offering.{unheard_planned, none_planned, run_planned}
 use Rattle.gp_hold_response.specs.declared.response.Heard.{Heard}
 use Rattle.gp_hold_response.specs.declared.response.Heard.TheVariants.{Any, From}
-use Rattle.gp_hold_response.specs.States.{response_state, response_spec, moved_to, position_in, channels_of}
+use Rattle.gp_hold_response.specs.States.{response_state, response_spec, moved_to}
 
 -- what holds of an answer holds of what it implies
 pub if_ok : {T E : Type 0} {P Q : T → Type 0} (r : Result T E) → ((x : T) → P x → Q x) → IfOk r P → IfOk r Q

@@ -1,5 +1,5 @@
 -- What a stream hold is, once it has grown, begun or planned.
-use Rattle.std.proofs.Common.{◌≡◌, ℕ, ◌+◌, ◌≤◌, ◌==◌, Bool, true, false, cond, not, ◌&&◌, nat_le, List, [], ◌∷◌, ◌++◌, length, filter, refl, sym, ap, ◌∙◌, subst, arith, Option, Some, None, Result, Ok, Err, IfOk, is_none, is_some, option_map}
+use Rattle.std.proofs.Common.{◌≡◌, ℕ, ◌+◌, ◌==◌, Bool, true, false, cond, not, ◌&&◌, nat_le, List, [], ◌∷◌, ◌++◌, length, refl, sym, ap, ◌∙◌, arith, Option, Some, None, Result, Ok, Err, IfOk, is_none, is_some}
 use Rattle.std.specs.Option.{option_map_or}
 use Rattle.std.proofs.lemmas.Bool.Decides.{nat_tests}
 use Rattle.gp_plain.specs.declared.item.Item.{Item}
@@ -11,14 +11,13 @@ use Rattle.gp_plain.specs.declared.reply.EndCause.{EndCause}
 use Rattle.gp_plain.specs.declared.reply.EndCause.TheVariants.{Overflow}
 use Rattle.gp_plain.specs.declared.plan.Plan.{Plan}
 use Rattle.gp_plain.specs.Fit.{is_short_page}
-use Rattle.gp_plain.specs.Items.{is_on, comes_after}
-use Rattle.gp_plain.specs.Follow.{is_heard}
+use Rattle.gp_plain.specs.Items.{is_on}
 use Rattle.gp_plain.specs.Tails.{ahead, on_channel}
 use Rattle.gp_plain.specs.Roomy.{roomy}
-use Rattle.gp_plain.specs.Pieces.{moved, position_after, end_by, has_room}
+use Rattle.gp_plain.specs.Pieces.{position_after}
 use Rattle.gp_plain.specs.Holds.{State, is_live, added, run, comes_next, leaves_gap, piece_by, ends_by, followers, offered, opened, caught_up, begun_state, wants_more, is_ahead}
 use Rattle.gp_plain.specs.Growth.{Growth, no_growth, with_pieces, end_or, grown}
-use Rattle.gp_plain.specs.Plans.{Machine, machine, IsMadeOf, IsPlanned}
+use Rattle.gp_plain.specs.Plans.{machine, IsMadeOf, IsPlanned}
 use Rattle.gp_plain.proofs.Growing.{run_is, or_none, state_is, heard_one, heard_channel}
 use Rattle.gp_plain.proofs.Offering.{run_planned}
 use Rattle.gp_hold_stream.specs.States.{stream_state, stream_spec}

@@ -1,5 +1,5 @@
 -- The plans of plain holds.
-use Rattle.std.specs.Prelude.{ℕ, ◌≡◌, ◌==◌, not, length, None}
+use Rattle.std.specs.Prelude.{◌≡◌, ◌==◌, not, length, None}
 use Rattle.gp_plain.specs.Roomy.{roomy}
 use Rattle.gp_plain.specs.Holds.{State, grew}
 use Rattle.gp_plain.specs.Growth.{grown, IsReady}

@@ -1,6 +1,6 @@
 -- The states of stream holds.
 use Rattle.std.specs.Prelude.{ℕ, Bool, false, List, [], ◌∷◌, Option, Some, None}
-use Rattle.gp_plain.specs.Holds.{Terms, State}
+use Rattle.gp_plain.specs.Holds.{State}
 use Rattle.gp_plain.specs.declared.event.HoldKind.TheVariants.{Stream as StreamKind, Plain as PlainKind}
 use Rattle.gp_plain.specs.declared.event.HoldSpec.{HoldSpec}
 use Rattle.gp_plain.specs.declared.event.HoldSpec.TheVariants.{Stream, Plain}

@@ -2,9 +2,9 @@
 use Rattle.std.proofs.Common.{◌≡◌, ℕ, Bool, true, false, cond, not, ◌&&◌, ◌||◌, List, [], ◌∷◌, refl, sym, ap, ◌∙◌, Option, Some, None, is_none, is_some}
 use Rattle.std.specs.List.{list_any}
 use Rattle.gp_plain.specs.declared.item.Item.{Item}
-use Rattle.gp_plain.specs.Items.{is_on, is_same, is_id}
+use Rattle.gp_plain.specs.Items.{is_on, is_same}
 use Rattle.gp_plain.specs.Follow.{is_repeat}
-use Rattle.gp_plain.specs.Holds.{State, is_live, offered, grew}
+use Rattle.gp_plain.specs.Holds.{State, offered, grew}
 use Rattle.gp_plain.specs.Plans.{Machine}
 use Rattle.gp_plain.specs.declared.reply.EndCause.{EndCause}
 use Rattle.gp_hold_stream.specs.declared.plain.PlainPlan.{PlainPlan}

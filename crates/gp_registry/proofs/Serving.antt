@@ -1,5 +1,5 @@
 -- What is planned for each hold is what the item does to each.
-use Rattle.std.proofs.Common.{◌≡◌, ℕ, ◌+◌, Bool, true, false, cond, nat_lt, List, [], ◌∷◌, ◌++◌, length, map, count_by, fold, refl, sym, ap, ◌∙◌, subst, arith}
+use Rattle.std.proofs.Common.{◌≡◌, ℕ, ◌+◌, Bool, true, false, cond, nat_lt, List, [], ◌∷◌, length, map, count_by, fold, refl, sym, ap, ◌∙◌, subst, arith}
 use Rattle.std.specs.List.{All, AllByRecursion}
 use Rattle.std.proofs.lemmas.Bool.Decides.{nat_tests}
 use Rattle.std.proofs.lemmas.List.{length-map}
@@ -9,7 +9,7 @@ use Rattle.gp_plain.specs.declared.event.Event.TheVariants.{Publish}
 use Rattle.gp_plain.specs.declared.reply.Reply.TheVariants.{Published, Repeat}
 use Rattle.gp_plain.specs.Pieces.{id_or}
 use Rattle.gp_plain.specs.Follow.{is_repeat}
-use Rattle.gp_plain.specs.Holds.{State, is_live, offered, grew, served, settled_if}
+use Rattle.gp_plain.specs.Holds.{State, is_live, offered, grew, settled_if}
 use Rattle.gp_plain.specs.Standing.{Kept, Standing}
 use Rattle.gp_registry.specs.Keeps.{pushed, offered_if, grew_kept, served_kept}
 use Rattle.gp_registry.specs.Steps.{published, stepped, answered}

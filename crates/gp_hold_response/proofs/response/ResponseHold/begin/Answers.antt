@@ -1,4 +1,4 @@
-use Rattle.std.proofs.Common.{◌≡◌, ◌∷◌, [], Bor, Some, None, true, IfOk, option_map, sym, ap, subst}
+use Rattle.std.proofs.Common.{◌≡◌, Bor, Some, true, IfOk, option_map, sym, ap, subst}
 use Rattle.gp_plain.specs.declared.name.ItemId.{ItemId}
 use Rattle.gp_plain.specs.Fit.{fits_spec}
 use Rattle.gp_plain.specs.Holds.{begun_state}

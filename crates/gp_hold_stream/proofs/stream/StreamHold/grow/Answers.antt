@@ -1,4 +1,4 @@
-use Rattle.std.proofs.Common.{◌≡◌, sym, ap, ◌∙◌}
+use Rattle.std.proofs.Common.{sym, ap, ◌∙◌}
 use Rattle.gp_plain.specs.Pieces.{id_or}
 use Rattle.gp_plain.specs.Growth.{grown}
 use Rattle.gp_plain.specs.Plans.{Machine}

@@ -1,4 +1,4 @@
-use Rattle.std.proofs.Common.{◌≡◌, ◌∷◌, ◌++◌, [], sym, ap, ◌∙◌, subst}
+use Rattle.std.proofs.Common.{sym, ap, ◌∙◌, subst}
 use Rattle.gp_plain.specs.Holds.{offered}
 use Rattle.gp_plain.specs.Plans.{Machine, IsPlanned}
 use Rattle.gp_hold_stream.proofs.Streams.{if_ok, next_planned}
