@@ -17,14 +17,7 @@ use Rattle.gp_window.specs.Searches.{goes_on_from, has_id, is_at, is_tip_of}
 use Rattle.gp_window.specs.Tips.{IsMarked, IsMarkedOf, goes_from, is_open}
 use Rattle.gp_window.specs.Marks.{count_of}
 use Rattle.gp_window.proofs.Marking.{no_count, only_one}
-use Rattle.gp_window.proofs.Walking.{at_item, at_within, none_at_all}
-
-absurd_true : {A : Type 0} → false ≡ true → A
-absurd_true e = cc
-
-not_true : (b : Bool) → (b ≡ true → ⊥) → b ≡ false
-not_true true f = absurd (f refl)
-not_true false f = refl
+use Rattle.gp_window.proofs.Walking.{absurd_true, and_left, and_right, at_item, at_within, none_at_all, not_true}
 
 absurd_some : {A : Type 0} {x : List ℕ} → None ≡ Some x → A
 absurd_some e = cc
@@ -40,10 +33,6 @@ back item channel id = option_map_or (λ (own : List ℕ). goes_on_from channel 
 cont_more : (items : List Item) (item : Item) (channel : List ℕ) (id : Option (List ℕ)) → cont (items ++ item ∷ []) channel id ≡ (cont items channel id || back item channel id)
 cont_more items item channel None = refl
 cont_more items item channel (Some own) = list_any-append (goes_on_from channel own) items (item ∷ []) ∙ ap (λ b. list_any (goes_on_from channel own) items || b) (or-false (goes_on_from channel own item))
-
-cont_first : (items : List Item) (item : Item) (channel : List ℕ) (id : Option (List ℕ)) → cont (item ∷ items) channel id ≡ (back item channel id || cont items channel id)
-cont_first items item channel None = refl
-cont_first items item channel (Some own) = refl
 
 -- an item goes on from one of the channel that has its previous id
 
@@ -78,14 +67,6 @@ closed_by : (items : List Item) (x y : Item) (from : List ℕ) → goes_from x �
 closed_by items x y from e h stays =
     not_open (is_chained y) (cont items y.channel y.id) (back x y.channel y.id) (back_of x.id x.prev x.channel y.channel from y.id e (and_left (is_on x.channel y) (is_id y.id from) h) (and_right (is_on x.channel y) (is_id y.id from) h))
     (ap (λ b. is_chained y && not b) (sym (cont_more items x y.channel y.id)) ∙ stays)
-  where
-    and_right : (a b : Bool) → (a && b) ≡ true → b ≡ true
-    and_right true b e = e
-    and_right false b e = absurd_true e
-
-    and_left : (a b : Bool) → (a && b) ≡ true → a ≡ true
-    and_left true b e = refl
-    and_left false b e = absurd_true e
 
 close_by : (items : List Item) (x y : Item) (marks : List ℕ) (place k : ℕ) (from : List ℕ) → (k ≡ place) ⊎ (k ≢ place) → goes_from x ≡ Some from → is_at (has_id x.channel from) items place ≡ true → IsMarked items items marks → slice_get items k ≡ Some y → is_open (items ++ x ∷ []) y ≡ true → get_or (set marks place 16384) k 0 ≡ channel_bucket y.channel
 close_by items x y marks place k from (inl same) e h t there stays =
@@ -157,10 +138,6 @@ none_marked items marks channel id bucket t e none =
 
 has_at : (channel id : List ℕ) (items : List Item) (k : ℕ) (y : Item) → slice_get items k ≡ Some y → is_at (has_id channel id) items k ≡ true → is_id y.id id ≡ true
 has_at channel id items k y there h = and_right (is_on channel y) (is_id y.id id) (sym (at_item (has_id channel id) items k y there) ∙ h)
-  where
-    and_right : (a b : Bool) → (a && b) ≡ true → b ≡ true
-    and_right true b e = e
-    and_right false b e = absurd_true e
 
 pub own_marked : (items : List Item) (marks : List ℕ) (channel id : List ℕ) (bucket place : ℕ) → IsMarked items items marks → bucket ≡ channel_bucket channel → count_of bucket marks ≡ 1 → IsMarkedOf items marks channel id bucket place → list_any (is_tip_of items channel id) items ≡ false
 own_marked items marks channel id bucket place t e one own =

@@ -29,12 +29,22 @@ pub record IsIn (is : ℕ → Bool) (keys : List ℕ) (b : ℕ) : Type 0 where
   pub within : (j : ℕ) → is j ≡ true → j < length keys
   pub here : (j : ℕ) → is j ≡ true → get_or keys j 0 ≡ b
 
-not_true : (b : Bool) → (b ≡ true → ⊥) → b ≡ false
+-- tests that have answered
+
+pub not_true : (b : Bool) → (b ≡ true → ⊥) → b ≡ false
 not_true true f = absurd (f refl)
 not_true false f = refl
 
-absurd_true : {A : Type 0} → false ≡ true → A
+pub absurd_true : {A : Type 0} → false ≡ true → A
 absurd_true e = cc
+
+pub and_right : (a b : Bool) → (a && b) ≡ true → b ≡ true
+and_right true b e = e
+and_right false b e = absurd_true e
+
+pub and_left : (a b : Bool) → (a && b) ≡ true → a ≡ true
+and_left true b e = refl
+and_left false b e = absurd_true e
 
 -- between a place and the next older one of the bucket nothing stands
 pub skipped : (is : ℕ → Bool) (keys : List ℕ) (b place : ℕ) (next : Option ℕ) → IsIn is keys b → MatchOption next (HasNone keys b place) (IsNewest keys b place) → (j : ℕ) → behind next ≤ j → j < place → is j ≡ false
@@ -94,14 +104,6 @@ is_in key is items b f = record {
   within = λ j e. omega (arith, at_within is items j e, long_map key items);
   here = λ j e. keyed key is items b f j e;
 }
-
-and_right : (a b : Bool) → (a && b) ≡ true → b ≡ true
-and_right true b e = e
-and_right false b e = absurd_true e
-
-and_left : (a b : Bool) → (a && b) ≡ true → a ≡ true
-and_left true b e = refl
-and_left false b e = absurd_true e
 
 same_bucket : (own : Option (List ℕ)) (own_channel channel id : List ℕ) → same_id own_channel channel ≡ true → is_id own id ≡ true → bucket_or own_channel own ≡ bucket channel id
 same_bucket None own_channel channel id c e = absurd_true e

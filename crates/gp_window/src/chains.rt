@@ -11,7 +11,7 @@ use std::marker::Model;
 const PLACES: usize = 4096;
 
 /// What is further back than any place.
-const NOWHERE: u16 = 4096;
+const NOWHERE: u16 = 4097;
 
 /// The buckets of the last places, at most 4,096, oldest first, each with the way to the next older place of its bucket.
 ///
@@ -117,7 +117,7 @@ impl Chains {
     {
         match self.newest(bucket) {
             Some(place) => (self.buckets.len() - place) as u16,
-            None => NOWHERE + 1,
+            None => NOWHERE,
         }
     }
 

@@ -1,5 +1,5 @@
 //! Items that are found by their channel and their id, or their previous id.
-ghost use Rattle.std.specs.Prelude.{◌≡◌, ◌<◌, ◌≤◌, ◌++◌, ◌∷◌, ◌&&◌, ℕ, [], IfOk, MatchOption, Some, cond, drop, eqb, false, get_or, length, option_map, set, slice_get, true};
+ghost use Rattle.std.specs.Prelude.{◌≡◌, ◌<◌, ◌≤◌, ◌++◌, ◌∷◌, ℕ, [], IfOk, MatchOption, Some, cond, drop, false, get_or, length, option_map, set, slice_get, true};
 ghost use Rattle.std.specs.List.{list_any};
 ghost use Rattle.gp_plain.specs.Tails.{IsNextAfter, IsNoNextAfter};
 ghost use Rattle.gp_window.specs.Buckets.{channel_bucket};

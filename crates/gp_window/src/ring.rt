@@ -1,10 +1,9 @@
 //! The items of a window, with marks that tell soon whether something is ahead of an id.
-ghost use Rattle.std.specs.Prelude.{◌≡◌, ◌<◌, ◌≤◌, ◌++◌, ◌∷◌, ℕ, [], IfOk, MatchOption, cond, drop, false, get_or, length, option_map, set, slice_get, true};
+ghost use Rattle.std.specs.Prelude.{◌≡◌, ◌<◌, ◌++◌, ◌∷◌, ℕ, [], IfOk, MatchOption, drop, length, option_map, slice_get, true};
 ghost use Rattle.std.specs.List.{list_any};
 ghost use Rattle.gp_plain.specs.Follow.{last_items};
 ghost use Rattle.gp_plain.specs.Tails.{IsNextAfter, IsNoNextAfter, ahead, on_channel};
 ghost use Rattle.gp_window.specs.Buckets.{channel_bucket};
-ghost use Rattle.gp_window.specs.Marks.{count_of};
 ghost use Rattle.gp_window.specs.Searches.{has_id, is_at, is_tip_of};
 ghost use Rattle.gp_window.specs.Tips.{IsMarked, IsMarkedOf, goes_from, is_open};
 

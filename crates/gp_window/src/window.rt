@@ -1,6 +1,6 @@
-ghost use Rattle.std.specs.Prelude.{◌≡◌, ◌++◌, ◌∷◌, [], length, true, false, IfOk, IfErr, IsOk, OnOk, OnErr, option_map, slice_get};
+ghost use Rattle.std.specs.Prelude.{◌≡◌, [], length, true, false, IfOk, IfErr, IsOk, OnOk, OnErr, option_map, slice_get};
 ghost use Rattle.std.specs.List.{list_any};
-ghost use Rattle.gp_plain.specs.Follow.{is_repeat, last_items};
+ghost use Rattle.gp_plain.specs.Follow.{is_repeat};
 ghost use Rattle.gp_window.specs.Items.{IsPushed, last};
 ghost use Rattle.gp_window.specs.Searches.{has_id};
 
