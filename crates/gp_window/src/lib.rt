@@ -7,7 +7,7 @@
 //! to the oldest, so `repeats` and `next_after` look at the items of one bucket alone. Each chained item from which nothing goes
 //! on is marked, and the marks are counted by buckets of channels, so `ahead` is answered at once where no item of the
 //! channel's bucket is marked, or the one with the id alone; else it looks through the marks, from the newest item on.
-//! A push looks at the items of at most four buckets.
+//! A push goes along at most five chains: one tells a repeat, two are of the item that goes, and two of the one that comes.
 #![tactic(auto)]
 
 mod bucket;
