@@ -1,7 +1,7 @@
 //! The last 4,096 items that were published: those that may still follow an id, and that repeats are told by.
 //!
 //! Contracts see the items, oldest first, and whether the memory for them was taken; what is looked for in them is
-//! defined in `gp_plain`. A ring of `circular_buffer` holds them, in one block that is taken once.
+//! defined in `gp_plain`. Rings of `circular_buffer` hold them and what finds them, in blocks that are taken once.
 //!
 //! Ids and previous ids are found by 16,384 buckets of channel and id. Items that share a bucket form a chain, from the newest
 //! to the oldest, so `repeats` and `next_after` look at the items of one bucket alone. Each chained item from which nothing goes
