@@ -1,11 +1,12 @@
 //! The buckets by which items are found: equal texts share one.
-ghost use Rattle.std.specs.Prelude.{◌≡◌, ◌<◌, ◌/◌};
+ghost use Rattle.std.specs.Prelude.{◌≡◌, ◌<◌, ◌/◌, IfOk, replicate};
 ghost use Rattle.gp_window.specs.Buckets.{bucket, bucket_or, channel_bucket, mixed};
 
 use gp_plain::{ItemId, Name};
+use std::alloc::{AllocError, Global};
 
 /// How many buckets there are: those for texts, and one more for what has none.
-pub const ALL_BUCKETS: usize = 16385;
+const ALL_BUCKETS: usize = 16385;
 
 /// The bucket of what has no text.
 pub const NO_BUCKET: usize = 16384;
@@ -60,4 +61,11 @@ pub fn channel_bucket(channel: &Name) -> usize
     ensures few { result < 16384 }
 {
     upper(mixed(START, channel.bytes()))
+}
+
+/// A number for each bucket, at first 0.
+pub fn zeros(alloc: Global) -> Result<Vec<u16>, AllocError>
+    ensures { IfOk result (λ numbers. numbers.items ≡ replicate 16385 0) }
+{
+    vec![in alloc; 0u16; ALL_BUCKETS]
 }

@@ -1,14 +1,12 @@
 //! Where the last buckets stand that were pushed.
-ghost use Rattle.std.specs.Prelude.{◌≡◌, ◌+◌, ◌-◌, ◌%◌, ◌<◌, ◌≤◌, ◌++◌, ◌∷◌, [], IfOk, MatchOption, drop, get_or, length, replicate};
+ghost use Rattle.std.specs.Prelude.{◌≡◌, ◌+◌, ◌-◌, ◌%◌, ◌<◌, ◌≤◌, ◌++◌, ◌∷◌, [], IfOk, MatchOption, drop, get_or, length};
 ghost use Rattle.gp_window.specs.Chains.{HasNone, IsNewest, place_of};
 
-use crate::bucket::ALL_BUCKETS;
+use crate::bucket::zeros;
+use crate::sizes::ITEMS;
 use circular_buffer::HeapCircularBuffer;
 use std::alloc::{AllocError, Global};
 use std::marker::Model;
-
-/// The places, at most.
-const PLACES: usize = 4096;
 
 /// What is further back than any place.
 const NOWHERE: u16 = 4097;
@@ -54,22 +52,15 @@ fn number_of(first: u16, place: usize) -> u16
     ((first as usize + place) % 65536) as u16
 }
 
-/// One number for each bucket.
-fn no_heads(alloc: Global) -> Result<Vec<u16>, AllocError>
-    ensures { IfOk result (λ heads. heads.items ≡ replicate 16385 0) }
-{
-    vec![in alloc; 0u16; ALL_BUCKETS]
-}
-
 impl Chains {
     /// No place, with the memory for all.
     pub fn new(alloc: Global) -> Result<Chains, AllocError>
         ensures { IfOk result (λ chains. chains ≡ []) }
     {
         Ok(Chains {
-            heads: no_heads(alloc)?,
-            buckets: HeapCircularBuffer::with_capacity(alloc, PLACES)?,
-            backs: HeapCircularBuffer::with_capacity(alloc, PLACES)?,
+            heads: zeros(alloc)?,
+            buckets: HeapCircularBuffer::with_capacity(alloc, ITEMS)?,
+            backs: HeapCircularBuffer::with_capacity(alloc, ITEMS)?,
             first: 0,
         })
     }

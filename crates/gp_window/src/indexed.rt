@@ -8,13 +8,11 @@ ghost use Rattle.gp_window.specs.Searches.{IsFound, goes_on_from, has_id, is_at,
 use crate::bucket::{bucket, bucket_or, channel_bucket};
 use crate::chains::Chains;
 use crate::marks::Marks;
+use crate::sizes::ITEMS;
 use circular_buffer::HeapCircularBuffer;
 use gp_plain::{Item, ItemId, Name, Places};
 use std::alloc::{AllocError, Global};
 use std::marker::Model;
-
-/// The items, at most.
-const ITEMS: usize = 4096;
 
 /// The last items, at most 4,096, oldest first, with the chains of those that share a bucket of their id, or of their previous id.
 #[derive(Drop)]

@@ -15,6 +15,7 @@ mod chains;
 mod indexed;
 mod marks;
 mod ring;
+mod sizes;
 mod window;
 
 pub use window::{Pushed, Window};

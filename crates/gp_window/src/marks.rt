@@ -1,15 +1,13 @@
 //! A mark for each of the last places, and how many places have each.
-ghost use Rattle.std.specs.Prelude.{◌≡◌, ◌+◌, ◌-◌, ◌<◌, ◌≤◌, ◌++◌, ◌∷◌, [], IfOk, drop, eqb, false, get_or, length, replicate, set, slice_get};
+ghost use Rattle.std.specs.Prelude.{◌≡◌, ◌+◌, ◌-◌, ◌<◌, ◌≤◌, ◌++◌, ◌∷◌, [], IfOk, drop, eqb, false, get_or, length, set, slice_get};
 ghost use Rattle.std.specs.Option.{option_map_or};
 ghost use Rattle.gp_window.specs.Marks.{count_of};
 
-use crate::bucket::ALL_BUCKETS;
+use crate::bucket::zeros;
+use crate::sizes::ITEMS;
 use circular_buffer::HeapCircularBuffer;
 use std::alloc::{AllocError, Global};
 use std::marker::Model;
-
-/// The places, at most.
-const PLACES: usize = 4096;
 
 /// A bucket for each of the last places, at most 4,096, oldest first, that can be changed; and how many places have each bucket.
 #[derive(Drop)]
@@ -28,13 +26,6 @@ impl Model for Marks {
     ghost view = { λ m. m.marks.items };
 
     ghost invariant = { λ m. (m.marks.capacity ≡ 4096) × IsCounted m.counts.items m.marks.items };
-}
-
-/// No place of any bucket.
-fn no_counts(alloc: Global) -> Result<Vec<u16>, AllocError>
-    ensures { IfOk result (λ counts. counts.items ≡ replicate 16385 0) }
-{
-    vec![in alloc; 0u16; ALL_BUCKETS]
 }
 
 /// One place more has a bucket.
@@ -72,8 +63,8 @@ impl Marks {
         ensures { IfOk result (λ marks. marks ≡ []) }
     {
         Ok(Marks {
-            counts: no_counts(alloc)?,
-            marks: HeapCircularBuffer::with_capacity(alloc, PLACES)?,
+            counts: zeros(alloc)?,
+            marks: HeapCircularBuffer::with_capacity(alloc, ITEMS)?,
         })
     }
 

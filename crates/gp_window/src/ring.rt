@@ -10,12 +10,10 @@ ghost use Rattle.gp_window.specs.Tips.{IsMarked, IsMarkedOf, goes_from, is_open}
 use crate::bucket::{NO_BUCKET, channel_bucket};
 use crate::indexed::Indexed;
 use crate::marks::Marks;
+use crate::sizes::ITEMS;
 use gp_plain::{Item, ItemId, Name, Places};
 use std::alloc::{AllocError, Global};
 use std::marker::Model;
-
-/// The items, at most.
-const ITEMS: usize = 4096;
 
 /// The last items, at most 4,096. A chained item from which nothing goes on is marked by the bucket of its channel; what is
 /// ahead of an id on a channel is a marked item.

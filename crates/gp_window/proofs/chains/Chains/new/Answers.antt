@@ -9,5 +9,5 @@ invariant_of-result c =
     let backs : c.in_ok-with_capacity-2.field-0.items ≡ [] = ap (λ (b : Buffer ℕ). b.items) c.in_ok-with_capacity-2.ensures in (
       ap (λ (b : Buffer ℕ). b.capacity) c.in_ok-with_capacity.ensures,
       ap (λ (b : Buffer ℕ). b.capacity) c.in_ok-with_capacity-2.ensures,
-      rw (buckets, backs, c.in_ok-no_heads.ensures) chained_none,
+      rw (buckets, backs, c.in_ok-zeros.ensures) chained_none,
     )

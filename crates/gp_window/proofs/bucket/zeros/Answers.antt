@@ -1,5 +1,5 @@
 use Rattle.std.proofs.lemmas.Result.{IfOk-weaker}
-use Rattle.gp_window.proofs.marks.no_counts.Goals as goal
+use Rattle.gp_window.proofs.bucket.zeros.Goals as goal
 
 pub returns : goal.returns
 returns c = IfOk-weaker c.vec.result _ _ (λ v same. same (λ y e. e)) c.vec.ensures.items_if_clones_equal

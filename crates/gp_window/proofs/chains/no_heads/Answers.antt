@@ -1,5 +1,0 @@
-use Rattle.std.proofs.lemmas.Result.{IfOk-weaker}
-use Rattle.gp_window.proofs.chains.no_heads.Goals as goal
-
-pub returns : goal.returns
-returns c = IfOk-weaker c.vec.result _ _ (λ v same. same (λ y e. e)) c.vec.ensures.items_if_clones_equal
