@@ -1,6 +1,6 @@
 ghost use Rattle.std.specs.Prelude.{◌≡◌, ◌∷◌, [], IfOk};
 ghost use Rattle.std.specs.Option.{option_to_list};
-ghost use Rattle.gp_plain.specs.Tails.{is_tip};
+ghost use Rattle.gp_plain.specs.Tails.{is_tip_of};
 
 use crate::ResponseHold;
 use gp_plain::{
@@ -33,16 +33,16 @@ impl Tail for Last {
         let Some(item) = &self.item else {
             return false;
         };
-        item.is_on(channel) && is_tip(item, id)
+        is_tip(item, channel, id)
     }
 }
 
 /// Whether the item alone shows that there is more than an id.
-fn is_tip(item: &Item, id: &ItemId) -> bool
-    ensures { result ≡ is_tip id.now (item.now ∷ []) item.now }
+fn is_tip(item: &Item, channel: &Name, id: &ItemId) -> bool
+    ensures { result ≡ is_tip_of (item.now ∷ []) channel.now id.now item.now }
 {
     match (&item.id, &item.prev) {
-        (Some(own), Some(prev)) => !own.is(id) && !prev.is(own),
+        (Some(own), Some(prev)) => item.is_on(channel) && !own.is(id) && !prev.is(own),
         _ => false,
     }
 }
