@@ -15,11 +15,11 @@ returns-clause-gives c =
     subst (λ (m : Machine). IfOk c.if-is_empty.result (λ (taken : Taken). taken ≡ taken_of c.args.now m.state)) c.self.view_is
     (elim c.if-is_empty.branch [
       | then-is_empty w ↦ subst (λ r. IfOk r (λ (taken : Taken). taken ≡ taken_of c.args.now (response_state s.heard s.deadline s.pending.items s.ended s.want))) (sym w.result-is)
-      (gives_last s.heard s.deadline s.pending.items c.in_ok-pieces.pieces c.take.new.self.items s.ended c.end_at-ended.result s.want c.args.now c.in_ok-at.at c.in_ok-pieces.ensures.given c.in_ok-pieces.ensures.left end at (sym c.is_empty.ensures ∙ w.if-is_empty.true))
+          (gives_last s.heard s.deadline s.pending.items c.in_ok-pieces.pieces c.take.new.self.items s.ended c.end_at-ended.result s.want c.args.now c.in_ok-at.at c.in_ok-pieces.ensures.given c.in_ok-pieces.ensures.left end at (sym c.is_empty.ensures ∙ w.if-is_empty.true))
       | else-is_empty+in-Some-1 w ↦ subst (λ r. IfOk r (λ (taken : Taken). taken ≡ taken_of c.args.now (response_state s.heard s.deadline s.pending.items s.ended s.want))) (sym w.result-is)
-      (gives_some s.heard s.deadline s.pending.items c.in_ok-pieces.pieces c.take.new.self.items s.ended c.end_at-ended.result s.want c.args.now c.in_ok-pieces.ensures.given c.in_ok-pieces.ensures.left end (sym c.is_empty.ensures ∙ w.if-is_empty.false))
+          (gives_some s.heard s.deadline s.pending.items c.in_ok-pieces.pieces c.take.new.self.items s.ended c.end_at-ended.result s.want c.args.now c.in_ok-pieces.ensures.given c.in_ok-pieces.ensures.left end (sym c.is_empty.ensures ∙ w.if-is_empty.false))
       | else-is_empty+in-None-1 w ↦ subst (λ r. IfOk r (λ (taken : Taken). taken ≡ taken_of c.args.now (response_state s.heard s.deadline s.pending.items s.ended s.want))) (sym w.result-is)
-      (gives_some s.heard s.deadline s.pending.items c.in_ok-pieces.pieces c.take.new.self.items s.ended c.end_at-ended.result s.want c.args.now c.in_ok-pieces.ensures.given c.in_ok-pieces.ensures.left end (sym c.is_empty.ensures ∙ w.if-is_empty.false))
+          (gives_some s.heard s.deadline s.pending.items c.in_ok-pieces.pieces c.take.new.self.items s.ended c.end_at-ended.result s.want c.args.now c.in_ok-pieces.ensures.given c.in_ok-pieces.ensures.left end (sym c.is_empty.ensures ∙ w.if-is_empty.false))
     ])
 
 pub returns-clause-leaves : goal.returns-clause-leaves
