@@ -8,6 +8,3 @@
 mod response;
 
 pub use response::{ResponseHold, ResponsePlan};
-
-#[cfg(test)]
-mod tests;

@@ -2,9 +2,9 @@ ghost use Rattle.std.specs.Prelude.{◌≡◌, ◌&&◌, ◌∷◌, [], ℕ, Lis
 ghost use Rattle.gp_plain.specs.Fit.{fits_spec};
 ghost use Rattle.gp_plain.specs.Follow.{is_heard};
 ghost use Rattle.gp_plain.specs.Growth.{grown};
-ghost use Rattle.gp_plain.specs.Holds.{after_take, begun_state, offered, settled, taken_of, timed};
+ghost use Rattle.gp_plain.specs.Holds.{after_take, begun_state, offered, settled, taken_of, timed, is_retry, recover_from};
 ghost use Rattle.gp_plain.specs.Plans.{IsPlanned, IsPlanReady, grows, with_plan};
-ghost use Rattle.gp_plain.specs.Tails.{ahead, on_channel};
+ghost use Rattle.gp_plain.specs.Tails.{ahead};
 ghost use Rattle.gp_plain.specs.declared.event.HoldKind.TheVariants.{Response};
 ghost use Rattle.gp_plain.specs.declared.item.Item.{Item};
 ghost use Rattle.gp_plain.specs.declared.plan.Plan.TheVariants.{Grow};
@@ -87,7 +87,7 @@ fn wants<I: Tail>(
     position: &ItemId,
     window: &I,
 ) -> bool
-    ensures { result ≡ (is_none ended && not again && ahead position.now (on_channel channel.now (I.items window.now))) }
+    ensures { result ≡ (is_none ended && not again && ahead channel.now position.now (I.items window.now)) }
 {
     ended.is_none() && !again && window.ahead(channel, position)
 }
@@ -275,6 +275,16 @@ impl ResponseHold {
         }
     }
 
+    /// The position from which its request is to be repeated, where it ends so.
+    fn repeat_from(&self, ended: Option<EndCause>) -> Result<Option<ItemId>, AllocError>
+        ensures { IfOk result (λ at. at ≡ recover_from (is_retry ended) self.now.state.position) }
+    {
+        match (ended, self.heard.position()) {
+            (Some(EndCause::Retry), Some(position)) => Ok(Some(position.copy(self.alloc)?)),
+            _ => Ok(None),
+        }
+    }
+
     /// Gives the next batch, and the end where nothing is left: where the deadline came without an answer the hold has
     /// timed out, and where it missed items its request is to be repeated from its position. An error changes nothing.
     pub fn take(&mut self, now: u64) -> Result<Taken, AllocError>
@@ -283,10 +293,7 @@ impl ResponseHold {
         ensures err { OnErr result (self.new ≡ self.old) }
     {
         let ended = self.end_at(now);
-        let at = match (ended, self.heard.position()) {
-            (Some(EndCause::Retry), Some(position)) => Some(position.copy(self.alloc)?),
-            _ => None,
-        };
+        let at = self.repeat_from(ended)?;
         let pieces = self.pending.take()?;
         self.ended = ended;
         if self.pending.is_empty() {

@@ -11,6 +11,3 @@ mod stream;
 
 pub use plain::{PlainHold, PlainPlan};
 pub use stream::{StreamHold, StreamPlan};
-
-#[cfg(test)]
-mod tests;

@@ -3,7 +3,7 @@ ghost use Rattle.gp_plain.specs.Fit.{is_short_page};
 ghost use Rattle.gp_plain.specs.Follow.{is_heard};
 ghost use Rattle.gp_plain.specs.Growth.{grown};
 ghost use Rattle.gp_plain.specs.Holds.{after_take, begun_state, gapped, offered, settled, taken_of};
-ghost use Rattle.gp_plain.specs.Tails.{ahead, on_channel};
+ghost use Rattle.gp_plain.specs.Tails.{ahead};
 ghost use Rattle.gp_plain.specs.Plans.{IsPlanned, IsPlanReady, grows, with_plan};
 ghost use Rattle.gp_plain.specs.declared.plan.Plan.TheVariants.{Grow};
 ghost use Rattle.gp_hold_stream.specs.States.{stream_spec};
@@ -55,7 +55,7 @@ fn wants<I: Tail>(
     position: &ItemId,
     window: &I,
 ) -> bool
-    ensures { result ≡ (is_none ended && link && ahead position.now (on_channel channel.now (I.items window.now))) }
+    ensures { result ≡ (is_none ended && link && ahead channel.now position.now (I.items window.now)) }
 {
     ended.is_none() && link && window.ahead(channel, position)
 }

@@ -4,11 +4,12 @@ use Rattle.gp_plain.specs.declared.event.Entry.{Entry}
 use Rattle.gp_plain.specs.declared.event.Event.{Event}
 use Rattle.gp_plain.specs.declared.reply.Reply.{Reply}
 use Rattle.gp_plain.specs.History as history
+use Rattle.gp_plain.specs.Refusals.{NeedsNoMemory}
 use Rattle.gp_turn.specs.declared.fault.TurnFault.{TurnFault}
 use Rattle.gp_turn.specs.declared.fault.TurnFault.TheVariants as turn
 use Rattle.gp_hub.specs.declared.fault.HubFault.{HubFault}
 use Rattle.gp_hub.specs.declared.fault.HubFault.TheVariants.{Busy, Worn, NoMemory}
-use Rattle.gp_hub.specs.Passes.{HubView, GoesOnFrom, entry_of, NeedsNoMemory}
+use Rattle.gp_hub.specs.Passes.{HubView, GoesOnFrom, entry_of}
 
 -- an event was served: what stands before its entry goes on from what the pass had seen, and the reply is the
 -- registry's after it. The word found counts what stands before

@@ -1,8 +1,7 @@
 -- What contracts see of a pass of a hub.
-use Rattle.std.specs.Prelude.{ℕ, ◌≡◌, ◌≤◌, false, ⊤, List}
+use Rattle.std.specs.Prelude.{ℕ, ◌≡◌, ◌≤◌, false, List}
 use Rattle.gp_plain.specs.declared.event.Entry.{Entry}
 use Rattle.gp_plain.specs.declared.event.Event.{Event}
-use Rattle.gp_plain.specs.declared.event.Event.TheVariants.{Attach, Publish, Take, Page, PageFailed, Push, Join, Leave, Detach}
 use Rattle.gp_turn.specs.Passes.{PassView, GoesOn}
 
 -- the turn, the history that it has seen, its range, the ranges of its past, its parts, its looks and the word found
@@ -30,15 +29,3 @@ pub record IsSame (p q : HubView) : Type 0 where
   pub some : 1 ≤ p.spare
   pub enough : p.spare ≤ p.parts
   pub free : (p.holds ≡ false) × (q.holds ≡ false)
-
--- events that take no memory
-abbrev pub NeedsNoMemory : Event → Type 0
-NeedsNoMemory (Attach spec) = ⊥
-NeedsNoMemory (Publish item) = ⊥
-NeedsNoMemory (Take hold now) = ⊥
-NeedsNoMemory (Page hold from to bytes then) = ⊥
-NeedsNoMemory (PageFailed hold) = ⊤
-NeedsNoMemory (Push hold message) = ⊥
-NeedsNoMemory (Join hold channel) = ⊥
-NeedsNoMemory (Leave hold channel) = ⊤
-NeedsNoMemory (Detach hold) = ⊤

@@ -3,7 +3,8 @@ ghost use Rattle.std.specs.Prelude.{◌≡◌, true, refl};
 ghost use Rattle.gp_plain.specs.History.{reply};
 ghost use Rattle.gp_plain.specs.Standing.{StandsFor};
 ghost use Rattle.gp_plain.specs.Fit.{fits};
-ghost use Rattle.gp_hub.specs.Passes.{entry_of, who_of, NeedsNoMemory};
+ghost use Rattle.gp_plain.specs.Refusals.{NeedsNoMemory};
+ghost use Rattle.gp_hub.specs.Passes.{entry_of, who_of};
 
 use gp_plain::{Entry, Event, Reply};
 use gp_registry::Registry;

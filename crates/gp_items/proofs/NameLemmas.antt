@@ -52,4 +52,4 @@ name_fault text (Long n) long =
 name_fault text (Byte place) bad =
     let found : first_bad text ≡ Some place = find_at (is_bad_at text) 0 (length text) place (omega arith) (omega (arith, bad.2.within)) bad.2.bad (λ k low high. bad.2.before k high) in
     rw (not_short text bad.0, le-ltb 255 (length text) bad.1, found) refl
-name_fault text NoMemory none = none
+name_fault text NoMemory none = tt

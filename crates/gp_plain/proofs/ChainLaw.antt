@@ -1,5 +1,5 @@
 -- Every reliable stream hold follows every chain that covers it, and leaves nothing of the window behind.
-use Rattle.std.proofs.Common.{◌≡◌, ℕ, zero, suc, ◌+◌, ◌-◌, ◌≤◌, Bool, true, false, cond, not, ◌&&◌, ◌||◌, nat_le, List, [], ◌∷◌, ◌++◌, length, map, eqb, refl, sym, ap, ◌∙◌, subst, arith, append_assoc, Option, Some, None, All, is_some, option_map}
+use Rattle.std.proofs.Common.{◌≡◌, ℕ, zero, suc, ◌+◌, ◌-◌, ◌≤◌, Bool, true, false, cond, not, ◌&&◌, ◌||◌, nat_le, List, [], ◌∷◌, ◌++◌, length, map, eqb, refl, sym, ap, ◌∙◌, subst, arith, append_assoc, slice_get, Option, Some, None, is_some, option_map}
 use Rattle.std.specs.List.{AllByRecursion, list_any, find}
 use Rattle.std.specs.Option.{option_map_or}
 use Rattle.std.specs.Cmp.Lexicographic.{same_text}
@@ -17,14 +17,14 @@ use Rattle.gp_plain.specs.declared.reply.Piece.{Piece}
 use Rattle.gp_plain.specs.declared.reply.EndCause.{EndCause}
 use Rattle.gp_plain.specs.declared.reply.EndCause.TheVariants.{Gap, Overflow}
 use Rattle.gp_plain.specs.Names.{same_id}
-use Rattle.gp_plain.specs.Items.{is_chained, is_id, comes_after, content_of, closes, is_on}
-use Rattle.gp_plain.specs.Follow.{last_items, is_heard, is_next, without_first, going_on, follow_within, follow}
+use Rattle.gp_plain.specs.Items.{is_chained, is_id, comes_after, content_of, closes, is_on, goes_on_from}
+use Rattle.gp_plain.specs.Follow.{last_items, is_heard, without_first, going_on, follow_within, follow}
 use Rattle.gp_plain.specs.Pieces.{piece_bytes, text, moved, id_or, closed_by, end_by, has_room, batch}
 use Rattle.gp_plain.specs.Holds.{Terms, State, Held, terms_of, is_live, added, run, marked, gapped, can_ask, offered, shows_gap, run_for, comes_next, piece_of, settled_if, grew, served, opened, begun_state, timed, rest_of, end_or_detached}
 use Rattle.gp_plain.specs.History.{held, published, window}
-use Rattle.gp_plain.specs.Chain.{Link, Chain, IsNoneOf, AreDistinct, bytes_of, last_id, IsIn, IsLinked, IsBetween, CoversIds, CoversItem, CoversHistory, NoneCloses, FollowsLog, CoversSpec, Follows, HasAll}
+use Rattle.gp_plain.specs.Chain.{Link, Chain, IsNoneOf, AreDistinct, bytes_of, last_id, IsIn, IsLinked, IsBetween, CoversIds, CoversItem, NoneCloses, Covers, ChainLaw, WindowLaw}
 use Rattle.gp_plain.proofs.Windows.{drop_all, all_front, all_last, window_more}
-use Rattle.gp_plain.proofs.Histories.{IsKept, in_each_history}
+use Rattle.gp_plain.proofs.Histories.{IsKept, in_each_history, all_at}
 use Rattle.gp_plain.proofs.Soundness.{Fits, taken_again, sound}
 
 pub text-append : (ps qs : List Piece) → text (ps ++ qs) ≡ text ps ++ text qs
@@ -100,7 +100,7 @@ moved_on root up more rest l d e =
 
 -- what the items are that a chain's next item can be
 abbrev pub nexts : Chain → List ℕ → Item → Bool
-nexts c at item = is_next (c.channel ∷ []) at item
+nexts c at item = goes_on_from c.channel at item
 
 abbrev pub None-next : Chain → List ℕ → List Item → Type 0
 None-next c at items = AllByRecursion (λ (i : Item). nexts c at i ≡ false) items
@@ -167,8 +167,11 @@ pub and_right : (a b : Bool) → (a && b) ≡ true → b ≡ true
 and_right true b e = e
 and_right false b e = absurd_true e
 
-heard_channel : (item : Item) (channel : List ℕ) → (is_on channel item || false) ≡ true → item.channel ≡ channel
-heard_channel item channel e = same_text item.channel channel (sym (sym (or-false (is_on channel item)) ∙ e))
+same_channel : (item : Item) (channel : List ℕ) → is_on channel item ≡ true → item.channel ≡ channel
+same_channel item channel e = same_text item.channel channel (sym e)
+
+heard_on : (channel : List ℕ) (item : Item) (heard : Bool) → is_heard (channel ∷ []) item ≡ heard → is_on channel item ≡ heard
+heard_on channel item heard e = sym (or-false (is_on channel item)) ∙ e
 
 linked_by : (c : Chain) (id prev : Option (List ℕ)) (own at : List ℕ) (stream : Option StreamPart) → id ≡ Some own → prev ≡ Some at → CoversIds c id prev stream → IsLinked c own at stream
 linked_by c id prev own at stream e f cov = subst (λ i. CoversIds c i (Some at) stream) e (subst (λ p. CoversIds c id p stream) f cov)
@@ -181,9 +184,9 @@ pub record Linked (c : Chain) (item : Item) (at : List ℕ) : Type 0 where
 
 linked_of : (c : Chain) (items : List Item) (item : Item) (at : List ℕ) → Good c items item → nexts c at item ≡ true → Linked c item at
 linked_of c items item at g e =
-    let heard = and_left (is_heard (c.channel ∷ []) item) (comes_after item at) e in
-    let ids = ids_of item.id item.prev at (and_right (is_heard (c.channel ∷ []) item) (comes_after item at) e) in
-    record { own = ids.0; id_is = ids.1; linked = linked_by c item.id item.prev ids.0 at item.stream ids.1 ids.2 (g.covered (heard_channel item c.channel heard)) }
+    let on = and_right (comes_after item at) (is_on c.channel item) e in
+    let ids = ids_of item.id item.prev at (and_left (comes_after item at) (is_on c.channel item) e) in
+    record { own = ids.0; id_is = ids.1; linked = linked_by c item.id item.prev ids.0 at item.stream ids.1 ids.2 (g.covered (same_channel item c.channel on)) }
 
 pub and_both : (a b : Bool) → a ≡ true → b ≡ true → (a && b) ≡ true
 and_both true b e f = f
@@ -255,8 +258,8 @@ behind : (c : Chain) (items : List Item) (opening start : List ℕ) (taken : Lis
     → AreDistinct c.root c.links → last_id start between ≡ at → nexts c at item ≡ true → At c items opening start taken (between ++ l ∷ more) now s → nexts c now item ≡ b → b ≡ false
 behind c items opening start taken between more l at now s item false d from e a f = refl
 behind c items opening start taken between more l at now s item true d from e a f =
-    let there = ids_of item.id item.prev now (and_right (is_heard (c.channel ∷ []) item) (comes_after item now) f) in
-    let here = ids_of item.id item.prev at (and_right (is_heard (c.channel ∷ []) item) (comes_after item at) e) in
+    let there = ids_of item.id item.prev now (and_left (comes_after item now) (is_on c.channel item) f) in
+    let here = ids_of item.id item.prev at (and_left (comes_after item at) (is_on c.channel item) e) in
     let same : at ≡ now = cc (here.2, there.2) in
     let up = a.place.before ++ between in
     let whole : c.links ≡ up ++ ((l ∷ more) ++ a.place.rest) =
@@ -353,15 +356,15 @@ shorter q (x ∷ items) item e = let r = shorter_by q x item items (q x) e (shor
 went_by : (c : Chain) (items : List Item) (opening start : List ℕ) (taken : List Piece) (n : ℕ) (from : List Item) (between : List Link) (at : List ℕ) (s : State) (found : Option Item)
     → AreDistinct c.root c.links → AllByRecursion (Good c items) from → At c items opening start taken between at s → find (nexts c at) from ≡ found → length from ≤ suc n
     → ((f : List Item) (b : List Link) (p : List ℕ) (t : State) → AllByRecursion (Good c items) f → length f ≤ n → At c items opening start taken b p t
-    → Went c items opening start taken f b (run t (map piece_of (follow_within n (c.channel ∷ []) (λ i. closes i.stream) p f))))
+    → Went c items opening start taken f b (run t (map piece_of (follow_within n c.channel (λ i. closes i.stream) p f))))
     → Went c items opening start taken from between
-    (run s (map piece_of (going_on (λ i. closes i.stream) at (λ (next : List ℕ). follow_within n (c.channel ∷ []) (λ i. closes i.stream) next (without_first (nexts c at) from)) found)))
+    (run s (map piece_of (going_on (λ i. closes i.stream) at (λ (next : List ℕ). follow_within n c.channel (λ i. closes i.stream) next (without_first (nexts c at) from)) found)))
 went_by c items opening start taken n from between at s None d good a e short rest = stays c items opening start taken from between at s a (λ _. none_found (nexts c at) from e)
 went_by c items opening start taken n from between at s (Some item) d good a e short rest =
     let found = find_good (nexts c at) (Good c items) from item e good in
     let left = without_first (nexts c at) from in
     let few : length left ≤ n = let r = shorter (nexts c at) from item e in omega (arith, r, short) in
-    let went = stepped c items opening start taken left between at s item (λ (next : List ℕ). follow_within n (c.channel ∷ []) (λ i. closes i.stream) next left) (is_live s) (has_room s.pending (piece_of item)) (closes item.stream)
+    let went = stepped c items opening start taken left between at s item (λ (next : List ℕ). follow_within n c.channel (λ i. closes i.stream) next left) (is_live s) (has_room s.pending (piece_of item)) (closes item.stream)
     d found.good found.test a refl refl (λ b p t there. rest left b p t (left_good (nexts c at) (Good c items) from good) few there) in
     record { more = went.more; at = went.at; now = went.now; none = λ n. let all = went.none n in back (nexts c at) (λ (i : Item). nexts c went.at i ≡ false) from item e all.0 all.1 }
 
@@ -370,7 +373,7 @@ none_short n h = omega (arith, h)
 
 went : (c : Chain) (items : List Item) (opening start : List ℕ) (taken : List Piece) (n : ℕ) (from : List Item) (between : List Link) (at : List ℕ) (s : State)
     → AreDistinct c.root c.links → AllByRecursion (Good c items) from → length from ≤ n → At c items opening start taken between at s
-    → Went c items opening start taken from between (run s (map piece_of (follow_within n (c.channel ∷ []) (λ i. closes i.stream) at from)))
+    → Went c items opening start taken from between (run s (map piece_of (follow_within n c.channel (λ i. closes i.stream) at from)))
 went c items opening start taken zero [] between at s d good short a = stays c items opening start taken [] between at s a (λ n. tt)
 went c items opening start taken zero (x ∷ from) between at s d good short a = absurd (none_short (length from) short)
 went c items opening start taken (suc n) from between at s d good short a =
@@ -383,8 +386,15 @@ pub record Stands (c : Chain) (items : List Item) (opening start : List ℕ) (ta
   pub now : At c items opening start taken between at s
   pub none : s.ended ≡ None → None-next c at (last_items items)
 
+-- what is said of a reliable stream hold on the chain's channel that has its first position in the chain
+abbrev pub OfStream : Chain → HoldSpec → (List ℕ → List ℕ → Type 0) → Type 0
+OfStream chain (Stream opening channel prev link) says = channel ≡ chain.channel → IsIn chain prev → says opening prev
+OfStream chain (Plain opening channels) says = Unit {0}
+OfStream chain (Response channels prev deadline again) says = Unit {0}
+OfStream chain Socket says = Unit {0}
+
 abbrev pub Covered : Chain → List Item → HoldSpec → List Piece → State → Type 0
-Covered c items spec taken s = CoversSpec c spec (λ opening start. Stands c items opening start taken s)
+Covered c items spec taken s = OfStream c spec (λ opening start. Stands c items opening start taken s)
 
 pub record Law (c : Chain) (items : List Item) (h : Held) : Type 0 where
   pub fits : Fits h.spec h.taken h.state
@@ -449,11 +459,10 @@ and_false : (a b : Bool) → b ≡ false → (a && b) ≡ false
 and_false true b e = e
 and_false false b e = refl
 
-not_next : (heard chained prev id own : Bool) → (heard && (chained && not prev && not id)) ≡ true → (heard && (own && prev)) ≡ false
-not_next heard chained true id own e = gap_not heard chained id e
-not_next true chained false id true e = refl
-not_next true chained false id false e = refl
-not_next false chained false id own e = refl
+not_next : (heard chained prev id own on : Bool) → (heard && (chained && not prev && not id)) ≡ true → ((own && prev) && on) ≡ false
+not_next heard chained true id own on e = gap_not heard chained id e
+not_next heard chained false id true on e = refl
+not_next heard chained false id false on e = refl
 
 same_rest : (own at : List ℕ) (id : Option (List ℕ)) (close : Bool) (next : List ℕ → List Item) → id ≡ Some own
     → map piece_of (cond close [] (next (id_or id at))) ≡ cond close [] (option_map_or (λ (i : List ℕ). map piece_of (next i)) id [])
@@ -467,11 +476,11 @@ le_self n = omega arith
 chained_stands : (c : Chain) (items : List Item) (opening start : List ℕ) (taken : List Piece) (s : State) (item : Item) (f : Stands c items opening start taken s)
     → AreDistinct c.root c.links → AllByRecursion (CoversItem c) (items ++ item ∷ []) → s.ended ≡ None → nexts c f.at item ≡ true
     → Stands c (items ++ item ∷ []) opening start taken
-    (run s (piece_of item ∷ cond (closes item.stream) [] (option_map_or (λ (id : List ℕ). map piece_of (follow (c.channel ∷ []) (λ (i : Item). closes i.stream) id (last_items items))) item.id [])))
+    (run s (piece_of item ∷ cond (closes item.stream) [] (option_map_or (λ (id : List ℕ). map piece_of (follow c.channel (λ (i : Item). closes i.stream) id (last_items items))) item.id [])))
 chained_stands c items opening start taken s item f d cov live next =
     let more = items ++ item ∷ [] in
     let w = last_items items in
-    let after : List ℕ → List Item = λ (p : List ℕ). follow (c.channel ∷ []) (λ (i : Item). closes i.stream) p w in
+    let after : List ℕ → List Item = λ (p : List ℕ). follow c.channel (λ (i : Item). closes i.stream) p w in
     let goods = good_all c more more (λ q e. e) cov in
     let good_w = drop_all (Good c more) (length items - 4096) items (all_front (Good c more) items item goods) in
     let good_i = all_last (Good c more) items item goods in
@@ -490,11 +499,12 @@ chained_stands c items opening start taken s item f d cov live next =
 run_stands : (c : Chain) (items : List Item) (opening start : List ℕ) (taken : List Piece) (s : State) (item : Item) (f : Stands c items opening start taken s) (heard next : Bool)
     → AreDistinct c.root c.links → AllByRecursion (CoversItem c) (items ++ item ∷ []) → s.ended ≡ None → is_heard (c.channel ∷ []) item ≡ heard → comes_after item f.at ≡ next
     → Stands c (items ++ item ∷ []) opening start taken
-    (run s (cond heard (cond next (piece_of item ∷ cond (closes item.stream) [] (option_map_or (λ (id : List ℕ). map piece_of (follow (c.channel ∷ []) (λ (i : Item). closes i.stream) id (last_items items))) item.id [])) []) []))
-run_stands c items opening start taken s item f false next d cov live h n = stands_more c items opening start taken f.between f.at s item f.now (λ _. ap (λ b. b && comes_after item f.at) h) f.none
+    (run s (cond heard (cond next (piece_of item ∷ cond (closes item.stream) [] (option_map_or (λ (id : List ℕ). map piece_of (follow c.channel (λ (i : Item). closes i.stream) id (last_items items))) item.id [])) []) []))
+run_stands c items opening start taken s item f false next d cov live h n =
+    stands_more c items opening start taken f.between f.at s item f.now (λ _. and_false (comes_after item f.at) (is_on c.channel item) (heard_on c.channel item false h)) f.none
 run_stands c items opening start taken s item f true false d cov live h n =
-    stands_more c items opening start taken f.between f.at s item f.now (λ _. and_false (is_heard (c.channel ∷ []) item) (comes_after item f.at) n) f.none
-run_stands c items opening start taken s item f true true d cov live h n = chained_stands c items opening start taken s item f d cov live (and_both (is_heard (c.channel ∷ []) item) (comes_after item f.at) h n)
+    stands_more c items opening start taken f.between f.at s item f.now (λ _. ap (λ b. b && is_on c.channel item) n) f.none
+run_stands c items opening start taken s item f true true d cov live h n = chained_stands c items opening start taken s item f d cov live (and_both (comes_after item f.at) (is_on c.channel item) n (heard_on c.channel item true h))
 
 -- the same by the terms and the position of the hold
 offered_by : (c : Chain) (items : List Item) (opening start : List ℕ) (link : Bool) (taken : List Piece) (s : State) (item : Item) (f : Stands c items opening start taken s) (terms : Terms) (gap : Bool)
@@ -502,7 +512,7 @@ offered_by : (c : Chain) (items : List Item) (opening start : List ℕ) (link : 
     → Stands c (items ++ item ∷ []) opening start taken (cond gap (gapped s) (run s (run_for (terms_of (Stream opening c.channel start link)) (Some f.at) item (last_items items))))
 offered_by c items opening start link taken s item f terms true d cov live t g =
     gapped_stands c items opening start taken s item f (can_ask s.terms) (nat_le 64 (s.misses + 1)) live
-    (not_next (is_heard (c.channel ∷ []) item) (is_chained item) (is_id item.prev f.at) (is_id item.id f.at) (is_some item.id) g)
+    (not_next (is_heard (c.channel ∷ []) item) (is_chained item) (is_id item.prev f.at) (is_id item.id f.at) (is_some item.id) (is_on c.channel item) g)
 offered_by c items opening start link taken s item f terms false d cov live t g =
     run_stands c items opening start taken s item f (is_heard (c.channel ∷ []) item) (comes_after item f.at) d cov live refl refl
 
@@ -598,46 +608,29 @@ law_kept c d = record {
   go = λ items h f. record { fits = sound.go items h f.fits; law = λ cov. go_law c items h.spec h.taken h.state (end_or_detached h.state.ended) (f.law cov) };
 }
 
-all_by : (P Q : Held → Type 0) (hs : List Held) → ((h : Held) → P h → Q h) → AllByRecursion P hs → AllByRecursion Q hs
-all_by P Q [] f all = tt
-all_by P Q (h ∷ hs) f all = (f h all.0, all_by P Q hs f all.1)
-
-follows_by : (c : Chain) (items : List Item) (spec : HoldSpec) (taken : List Piece) (s : State) → Covered c items spec taken s
-    → CoversSpec c spec (λ opening start. FollowsLog c opening start (taken ++ s.pending) s.position s.ended)
-follows_by c items (Stream opening channel prev link) taken s f = λ same at.
-    let g = f same at in
-    record { between = g.between; at = g.at; position_is = g.now.position_is; place = g.now.place; bytes = g.now.bytes; still_open = g.now.still_open; closes_last = g.now.closes_last }
-follows_by c items (Plain opening channels) taken s f = tt
-follows_by c items (Response channels prev deadline again) taken s f = tt
-follows_by c items Socket taken s f = tt
-
 pub laws : (c : Chain) (entries : List Entry) → AreDistinct c.root c.links → AllByRecursion (Law c (published entries)) (held entries)
 laws c entries d = in_each_history (Law c) entries (law_kept c d)
-
-pub chain_law_holds : (c : Chain) (entries : List Entry) → AreDistinct c.root c.links → CoversHistory c entries → All (Follows c) (held entries)
-chain_law_holds c entries d cov =
-    All-from_recursion (Follows c) (held entries)
-    (all_by (Law c (published entries)) (Follows c) (held entries) (λ h f. follows_by c (published entries) h.spec h.taken h.state (f.law (recursion_from_All (CoversItem c) (published entries) cov))) (laws c entries d))
-
-all_items : (P Q : Item → Type 0) (xs : List Item) → ((x : Item) → P x → Q x) → AllByRecursion P xs → AllByRecursion Q xs
-all_items P Q [] f all = tt
-all_items P Q (x ∷ xs) f all = (f x all.0, all_items P Q xs f all.1)
 
 pub none_any : (q : Item → Bool) (xs : List Item) → AllByRecursion (λ (x : Item). q x ≡ false) xs → list_any q xs ≡ false
 none_any q xs all = list_any_none q xs (All-from_recursion (λ (x : Item). q x ≡ false) xs all)
 
-has_all_by : (c : Chain) (entries : List Entry) (spec : HoldSpec) (taken : List Piece) (s : State) → s.terms ≡ terms_of spec → Covered c (published entries) spec taken s
-    → CoversSpec c spec (λ opening start. s.ended ≡ None → list_any (λ (item : Item). is_heard (terms_of spec).channels item && comes_next item s.position) (window entries) ≡ false)
-has_all_by c entries (Stream opening channel prev link) taken s t f = λ same at n.
-    let g = f same at in
-    subst (λ (p : Option (List ℕ)). list_any (λ (item : Item). is_heard (channel ∷ []) item && comes_next item p) (window entries) ≡ false) (sym g.now.position_is)
-    (subst (λ (ch : List ℕ). list_any (λ (item : Item). is_heard (ch ∷ []) item && comes_after item g.at) (window entries) ≡ false) (sym same) (none_any (nexts c g.at) (window entries) (g.none n)))
-has_all_by c entries (Plain opening channels) taken s t f = tt
-has_all_by c entries (Response channels prev deadline again) taken s t f = tt
-has_all_by c entries Socket taken s t f = tt
+-- what the law says of a hold that a chain covers
+pub covered_stands : (c : Chain) (entries : List Entry) (number : ℕ) (h : Held) → slice_get (held entries) number ≡ Some h → (v : Covers c entries number h)
+    → Stands c (published entries) v.opening v.start h.taken h.state
+covered_stands c entries number h there v =
+    let law = all_at (Law c (published entries)) (held entries) number h (laws c entries v.distinct) there in
+    let covered = law.law (recursion_from_All (CoversItem c) (published entries) v.published) in
+    subst (λ (spec : HoldSpec). Covered c (published entries) spec h.taken h.state) v.channel covered refl v.root
 
-pub window_law_holds : (c : Chain) (entries : List Entry) → AreDistinct c.root c.links → CoversHistory c entries → All (HasAll c (window entries)) (held entries)
-window_law_holds c entries d cov =
-    All-from_recursion (HasAll c (window entries)) (held entries)
-    (all_by (Law c (published entries)) (HasAll c (window entries)) (held entries)
-    (λ h f. has_all_by c entries h.spec h.taken h.state f.fits.terms_are (f.law (recursion_from_All (CoversItem c) (published entries) cov))) (laws c entries d))
+pub chain_law_holds : ChainLaw
+chain_law_holds = λ entries c number h there v.
+    let f = covered_stands c entries number h there v in
+    record { between = f.between; at = f.at; position_is = f.now.position_is; place = f.now.place; bytes = f.now.bytes; still_open = f.now.still_open; closes_last = f.now.closes_last }
+
+same_at : {at own : List ℕ} {position : Option (List ℕ)} → position ≡ Some own → position ≡ Some at → own ≡ at
+same_at e f = cc (e, f)
+
+pub window_law_holds : WindowLaw
+window_law_holds = λ entries c number h there v live at is.
+    let f = covered_stands c entries number h there v in
+    subst (λ (p : List ℕ). list_any (goes_on_from c.channel p) (window entries) ≡ false) (same_at f.now.position_is is) (none_any (nexts c f.at) (window entries) (f.none live))

@@ -13,9 +13,9 @@ use Rattle.gp_plain.specs.declared.event.HoldKind.TheVariants.{Stream, Plain, Re
 use Rattle.gp_plain.specs.declared.reply.Piece.{Piece}
 use Rattle.gp_plain.specs.declared.reply.EndCause.{EndCause}
 use Rattle.gp_plain.specs.declared.reply.EndCause.TheVariants.{Overflow}
-use Rattle.gp_plain.specs.Items.{comes_after, is_on, closes}
+use Rattle.gp_plain.specs.Items.{goes_on_from, closes}
 use Rattle.gp_plain.specs.Tails.{is_next_at, IsNextAfter, IsNoNextAfter}
-use Rattle.gp_plain.specs.Follow.{is_next, without_first, going_on, follow_within, follow}
+use Rattle.gp_plain.specs.Follow.{without_first, going_on, follow_within, follow}
 use Rattle.gp_plain.specs.Pieces.{id_or, end_by, closed_by, has_room}
 use Rattle.gp_plain.specs.Holds.{piece_by, answer_or, ends_by}
 use Rattle.gp_plain.specs.Growth.{Growth, with_piece, with_pieces}
@@ -128,53 +128,44 @@ none_at q n used (item ∷ items) none =
     none_by q item (unused (n + 1) used items) (is_used used n) (not_yet (is_used used n) (q item) (ap (λ m. not (is_used used m) && q item) (sym (add-zero n)) ∙ none 0))
     (none_at q (n + 1) used items (λ j. ap (λ m. not (is_used used m) && option_map_or q (slice_get items j) false) (shift n j) ∙ none (suc j)))
 
-same_test : (q p : Item → Bool) (o : Option Item) → ((item : Item) → q item ≡ p item) → option_map_or q o false ≡ option_map_or p o false
-same_test q p None e = refl
-same_test q p (Some item) e = e item
-
-heard_is : (channel id : List ℕ) (item : Item) → is_next (channel ∷ []) id item ≡ (is_on channel item && comes_after item id)
-heard_is channel id item = ap (λ b. b && comes_after item id) (or-false (is_on channel item))
-
 zero_plus : (k : ℕ) → 0 + k ≡ k
 zero_plus k = omega arith
 
-stands_is : (channel id : List ℕ) (used : List ℕ) (items : List Item) (k : ℕ) → stands (is_next (channel ∷ []) id) 0 used items k ≡ is_next_at items channel id used k
-stands_is channel id used items k =
-    ap (λ m. not (is_used used m) && option_map_or (is_next (channel ∷ []) id) (slice_get items k) false) (zero_plus k)
-    ∙ ap (λ b. not (is_used used k) && b) (same_test (is_next (channel ∷ []) id) (λ (item : Item). is_on channel item && comes_after item id) (slice_get items k) (heard_is channel id))
+stands_is : (channel id : List ℕ) (used : List ℕ) (items : List Item) (k : ℕ) → stands (goes_on_from channel id) 0 used items k ≡ is_next_at items channel id used k
+stands_is channel id used items k = ap (λ m. not (is_used used m) && option_map_or (goes_on_from channel id) (slice_get items k) false) (zero_plus k)
 
-pub next_first : (channel id used : List ℕ) (items : List Item) (place : ℕ) → IsNextAfter items channel id used place → First (is_next (channel ∷ []) id) 0 used items place
+pub next_first : (channel id used : List ℕ) (items : List Item) (place : ℕ) → IsNextAfter items channel id used place → First (goes_on_from channel id) 0 used items place
 next_first channel id used items place next =
-    first_at (is_next (channel ∷ []) id) 0 place used items (stands_is channel id used items place ∙ next.here) (λ j h. stands_is channel id used items j ∙ next.least j h)
+    first_at (goes_on_from channel id) 0 place used items (stands_is channel id used items place ∙ next.here) (λ j h. stands_is channel id used items j ∙ next.least j h)
 
-no_next : (channel id used : List ℕ) (items : List Item) → IsNoNextAfter items channel id used → find (is_next (channel ∷ []) id) (unused 0 used items) ≡ None
-no_next channel id used items none = none_at (is_next (channel ∷ []) id) 0 used items (λ j. stands_is channel id used items j ∙ none j)
+no_next : (channel id used : List ℕ) (items : List Item) → IsNoNextAfter items channel id used → find (goes_on_from channel id) (unused 0 used items) ≡ None
+no_next channel id used items none = none_at (goes_on_from channel id) 0 used items (λ j. stands_is channel id used items j ∙ none j)
 
 -- what follows in a list, by its first item that comes next
 
-follow_none_by : (channels : List (List ℕ)) (ends : Item → Bool) (id : List ℕ) (n : ℕ) (items : List Item) → find (is_next channels id) items ≡ None → follow_within n channels ends id items ≡ []
-follow_none_by channels ends id zero items e = refl
-follow_none_by channels ends id (suc n) items e = ap (going_on ends id (λ (next : List ℕ). follow_within n channels ends next (without_first (is_next channels id) items))) e
+follow_none_by : (channel : List ℕ) (ends : Item → Bool) (id : List ℕ) (n : ℕ) (items : List Item) → find (goes_on_from channel id) items ≡ None → follow_within n channel ends id items ≡ []
+follow_none_by channel ends id zero items e = refl
+follow_none_by channel ends id (suc n) items e = ap (going_on ends id (λ (next : List ℕ). follow_within n channel ends next (without_first (goes_on_from channel id) items))) e
 
-pub follow_none : (channel id used : List ℕ) (ends : Item → Bool) (items : List Item) → IsNoNextAfter items channel id used → follow (channel ∷ []) ends id (unused 0 used items) ≡ []
-follow_none channel id used ends items none = follow_none_by (channel ∷ []) ends id (length (unused 0 used items)) (unused 0 used items) (no_next channel id used items none)
+pub follow_none : (channel id used : List ℕ) (ends : Item → Bool) (items : List Item) → IsNoNextAfter items channel id used → follow channel ends id (unused 0 used items) ≡ []
+follow_none channel id used ends items none = follow_none_by channel ends id (length (unused 0 used items)) (unused 0 used items) (no_next channel id used items none)
 
 one_more : (n : ℕ) → n + 1 ≡ suc n
 one_more n = omega arith
 
-follow_some_by : (channels : List (List ℕ)) (ends : Item → Bool) (id : List ℕ) (n : ℕ) (items : List Item) (item : Item) → n ≡ length (without_first (is_next channels id) items) + 1 → find (is_next channels id) items ≡ Some item
-    → follow_within n channels ends id items ≡ item ∷ cond (ends item) [] (follow channels ends (id_or item.id id) (without_first (is_next channels id) items))
-follow_some_by channels ends id n items item l e =
-    let left = without_first (is_next channels id) items in
-    ap (λ m. follow_within m channels ends id items) (l ∙ one_more (length left))
-    ∙ ap (going_on ends id (λ (next : List ℕ). follow_within (length left) channels ends next left)) e
+follow_some_by : (channel : List ℕ) (ends : Item → Bool) (id : List ℕ) (n : ℕ) (items : List Item) (item : Item) → n ≡ length (without_first (goes_on_from channel id) items) + 1 → find (goes_on_from channel id) items ≡ Some item
+    → follow_within n channel ends id items ≡ item ∷ cond (ends item) [] (follow channel ends (id_or item.id id) (without_first (goes_on_from channel id) items))
+follow_some_by channel ends id n items item l e =
+    let left = without_first (goes_on_from channel id) items in
+    ap (λ m. follow_within m channel ends id items) (l ∙ one_more (length left))
+    ∙ ap (going_on ends id (λ (next : List ℕ). follow_within (length left) channel ends next left)) e
 
-pub follow_some : (channel id used : List ℕ) (ends : Item → Bool) (items : List Item) (place : ℕ) (f : First (is_next (channel ∷ []) id) 0 used items place)
-    → follow (channel ∷ []) ends id (unused 0 used items) ≡ f.item ∷ cond (ends f.item) [] (follow (channel ∷ []) ends (id_or f.item.id id) (unused 0 (used ++ place ∷ []) items))
+pub follow_some : (channel id used : List ℕ) (ends : Item → Bool) (items : List Item) (place : ℕ) (f : First (goes_on_from channel id) 0 used items place)
+    → follow channel ends id (unused 0 used items) ≡ f.item ∷ cond (ends f.item) [] (follow channel ends (id_or f.item.id id) (unused 0 (used ++ place ∷ []) items))
 follow_some channel id used ends items place f =
-    let q = is_next (channel ∷ []) id in
-    follow_some_by (channel ∷ []) ends id (length (unused 0 used items)) (unused 0 used items) f.item (shorter q (unused 0 used items) f.item f.found) f.found
-    ∙ ap (λ rest. f.item ∷ cond (ends f.item) [] (follow (channel ∷ []) ends (id_or f.item.id id) rest)) (f.rest ∙ ap (λ m. unused 0 (used ++ m ∷ []) items) (zero_plus place))
+    let q = goes_on_from channel id in
+    follow_some_by channel ends id (length (unused 0 used items)) (unused 0 used items) f.item (shorter q (unused 0 used items) f.item f.found) f.found
+    ∙ ap (λ rest. f.item ∷ cond (ends f.item) [] (follow channel ends (id_or f.item.id id) rest)) (f.rest ∙ ap (λ m. unused 0 (used ++ m ∷ []) items) (zero_plus place))
 
 pub unused_all : (n : ℕ) (items : List Item) → unused n [] items ≡ items
 unused_all n [] = refl
@@ -217,12 +208,12 @@ rest_by pending g p kind rest true e = sym (all_after_end pending (with_piece pe
 rest_by pending g p kind rest false e = refl
 
 -- one step along what follows
-pub followed : (kind : HoldKind) (pending : List Piece) (g : Growth) (channel id used : List ℕ) (items : List Item) (place : ℕ) (f : First (is_next (channel ∷ []) id) 0 used items place)
-    → with_pieces pending g (map (piece_by kind) (follow (channel ∷ []) (ends_by kind) id (unused 0 used items)))
-    ≡ with_pieces pending (with_piece pending g (piece_by kind f.item)) (map (piece_by kind) (follow (channel ∷ []) (ends_by kind) (id_or f.item.id id) (unused 0 (used ++ place ∷ []) items)))
+pub followed : (kind : HoldKind) (pending : List Piece) (g : Growth) (channel id used : List ℕ) (items : List Item) (place : ℕ) (f : First (goes_on_from channel id) 0 used items place)
+    → with_pieces pending g (map (piece_by kind) (follow channel (ends_by kind) id (unused 0 used items)))
+    ≡ with_pieces pending (with_piece pending g (piece_by kind f.item)) (map (piece_by kind) (follow channel (ends_by kind) (id_or f.item.id id) (unused 0 (used ++ place ∷ []) items)))
 followed kind pending g channel id used items place f =
     ap (λ (xs : List Item). with_pieces pending g (map (piece_by kind) xs)) (follow_some channel id used (ends_by kind) items place f)
-    ∙ rest_by pending g (piece_by kind f.item) kind (follow (channel ∷ []) (ends_by kind) (id_or f.item.id id) (unused 0 (used ++ place ∷ []) items)) (ends_by kind f.item) (piece_ends kind f.item)
+    ∙ rest_by pending g (piece_by kind f.item) kind (follow channel (ends_by kind) (id_or f.item.id id) (unused 0 (used ++ place ∷ []) items)) (ends_by kind f.item) (piece_ends kind f.item)
 
 same_item : {x y : Item} → Some x ≡ Some y → x ≡ y
 same_item e = cc e
@@ -230,8 +221,8 @@ same_item e = cc e
 -- the same, once the piece and the place are added
 pub follow_step : (kind : HoldKind) (pending : List Piece) (g next : Growth) (channel id used used' own : List ℕ) (items : List Item) (place : ℕ) (item : Item) (piece : Piece)
     → IsNextAfter items channel id used place → slice_get items place ≡ Some item → piece ≡ piece_by kind item → next ≡ with_piece pending g piece → used' ≡ used ++ place ∷ [] → item.id ≡ Some own
-    → with_pieces pending next (map (piece_by kind) (follow (channel ∷ []) (ends_by kind) own (unused 0 used' items)))
-    ≡ with_pieces pending g (map (piece_by kind) (follow (channel ∷ []) (ends_by kind) id (unused 0 used items)))
+    → with_pieces pending next (map (piece_by kind) (follow channel (ends_by kind) own (unused 0 used' items)))
+    ≡ with_pieces pending g (map (piece_by kind) (follow channel (ends_by kind) id (unused 0 used items)))
 follow_step kind pending g next channel id used used' own items place item piece after there piece_is next_is used_is own_is =
     let f = next_first channel id used items place after in
     let same : f.item ≡ item = same_item (sym f.there ∙ there) in
@@ -239,14 +230,14 @@ follow_step kind pending g next channel id used used' own items place item piece
     let grown : with_piece pending g (piece_by kind f.item) ≡ next = ap (λ (x : Item). with_piece pending g (piece_by kind x)) same ∙ ap (with_piece pending g) (sym piece_is) ∙ sym next_is in
     sym (
     followed kind pending g channel id used items place f
-    ∙ ap (λ h. with_pieces pending h (map (piece_by kind) (follow (channel ∷ []) (ends_by kind) (id_or f.item.id id) (unused 0 (used ++ place ∷ []) items)))) grown
-    ∙ ap (λ p. with_pieces pending next (map (piece_by kind) (follow (channel ∷ []) (ends_by kind) p (unused 0 (used ++ place ∷ []) items)))) at
-    ∙ ap (λ us. with_pieces pending next (map (piece_by kind) (follow (channel ∷ []) (ends_by kind) own (unused 0 us items)))) (sym used_is)
+    ∙ ap (λ h. with_pieces pending h (map (piece_by kind) (follow channel (ends_by kind) (id_or f.item.id id) (unused 0 (used ++ place ∷ []) items)))) grown
+    ∙ ap (λ p. with_pieces pending next (map (piece_by kind) (follow channel (ends_by kind) p (unused 0 (used ++ place ∷ []) items)))) at
+    ∙ ap (λ us. with_pieces pending next (map (piece_by kind) (follow channel (ends_by kind) own (unused 0 us items)))) (sym used_is)
     )
 
 -- where nothing more follows
 pub follow_stops : (kind : HoldKind) (pending : List Piece) (g : Growth) (channel id used : List ℕ) (items : List Item) → IsNoNextAfter items channel id used
-    → g ≡ with_pieces pending g (map (piece_by kind) (follow (channel ∷ []) (ends_by kind) id (unused 0 used items)))
+    → g ≡ with_pieces pending g (map (piece_by kind) (follow channel (ends_by kind) id (unused 0 used items)))
 follow_stops kind pending g channel id used items none = sym (ap (λ (xs : List Item). with_pieces pending g (map (piece_by kind) xs)) (follow_none channel id used (ends_by kind) items none))
 
 pub some_not_none : (o : Option EndCause) → is_some o ≡ true → is_none o ≡ false

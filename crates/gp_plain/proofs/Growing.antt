@@ -1,5 +1,5 @@
 -- A run that is made before is the run that is added.
-use Rattle.std.proofs.Common.{◌≡◌, ℕ, ◌+◌, ◌==◌, Bool, true, false, cond, not, nat_lt, List, [], ◌∷◌, ◌++◌, length, fold, filter, refl, sym, ap, ◌∙◌, arith, append_assoc, length-append, Option, Some, None, is_none, is_some, option_map}
+use Rattle.std.proofs.Common.{◌≡◌, ℕ, ◌+◌, ◌==◌, Bool, true, false, cond, not, nat_lt, List, [], ◌∷◌, ◌++◌, length, fold, refl, sym, ap, ◌∙◌, arith, append_assoc, length-append, Option, Some, None, is_none, is_some, option_map}
 use Rattle.std.proofs.Math.Bool.{or-false}
 use Rattle.std.proofs.lemmas.Bool.Decides.{nat_tests}
 use Rattle.std.proofs.lemmas.List.{append-nil}
@@ -12,7 +12,6 @@ use Rattle.gp_plain.specs.declared.plan.Plan.{Plan}
 use Rattle.gp_plain.specs.declared.plan.Plan.TheVariants.{Nothing, Gap, Grow}
 use Rattle.gp_plain.specs.Items.{is_on}
 use Rattle.gp_plain.specs.Follow.{is_heard}
-use Rattle.gp_plain.specs.Tails.{on_channel}
 use Rattle.gp_plain.specs.Pieces.{moves_to, moved, id_or, position_after, end_by, has_room}
 use Rattle.gp_plain.specs.Roomy.{roomy}
 use Rattle.gp_plain.specs.Holds.{State, is_live, added, run, grew}
@@ -129,10 +128,3 @@ nothing_is m after e = record { ready = tt; effect = e; told = sym (not_less (le
 
 pub heard_one : (channel : List ℕ) (item : Item) → is_heard (channel ∷ []) item ≡ is_on channel item
 heard_one channel item = or-false (is_on channel item)
-
-same_filter : (q p : Item → Bool) (xs : List Item) → ((x : Item) → q x ≡ p x) → filter q xs ≡ filter p xs
-same_filter q p [] e = refl
-same_filter q p (x ∷ xs) e = ap (λ b. cond b (x ∷ filter q xs) (filter q xs)) (e x) ∙ ap (λ ys. cond (p x) (x ∷ ys) ys) (same_filter q p xs e)
-
-pub heard_channel : (channel : List ℕ) (xs : List Item) → filter (is_heard (channel ∷ [])) xs ≡ on_channel channel xs
-heard_channel channel xs = same_filter (is_heard (channel ∷ [])) (is_on channel) xs (heard_one channel)

@@ -1,5 +1,5 @@
 -- What each event keeps, each history keeps.
-use Rattle.std.proofs.Common.{ℕ, zero, suc, Bool, true, false, cond, not, ◌==◌, List, [], ◌∷◌, ◌++◌, map, fold}
+use Rattle.std.proofs.Common.{◌≡◌, ℕ, zero, suc, Bool, true, false, cond, not, ◌==◌, List, [], ◌∷◌, ◌++◌, map, fold, slice_get, subst, Some, None}
 use Rattle.std.specs.List.{AllByRecursion}
 use Rattle.gp_plain.specs.declared.item.Item.{Item}
 use Rattle.gp_plain.specs.declared.event.Entry.{Entry}
@@ -65,3 +65,12 @@ folded_all says past (e ∷ es) k all = folded_all says (after past e) es k (aft
 
 pub in_each_history : (says : List Item → Held → Type 0) (entries : List Entry) → IsKept says → AllByRecursion (says (published entries)) (held entries)
 in_each_history says entries k = folded_all says nothing entries k tt
+
+no_some : {h : Held} → None ≡ Some h → ⊥
+no_some e = cc
+
+-- what is said of each hold is said of the hold of a number
+pub all_at : (says : Held → Type 0) (hs : List Held) (n : ℕ) (h : Held) → AllByRecursion says hs → slice_get hs n ≡ Some h → says h
+all_at says [] n h all e = absurd (no_some e)
+all_at says (x ∷ xs) zero h all e = let same : x ≡ h = cc e in subst says same all.0
+all_at says (x ∷ xs) (suc n) h all e = all_at says xs n h all.1 e

@@ -20,9 +20,9 @@ use Rattle.gp_plain.specs.Follow.{last_items, is_repeat}
 use Rattle.gp_plain.specs.Pieces.{text}
 use Rattle.gp_plain.specs.Holds.{State, Held, begun, taken_from, let_go}
 use Rattle.gp_plain.specs.History.{Past, has_place, changed, served_by, with_item, with_hold, after_event, after, nothing, past_of, held, published}
-use Rattle.gp_plain.specs.Chain.{Link, Chain, AreDistinct, bytes_of, last_id, CoversItem, CoversHistory, CoversSpec}
-use Rattle.gp_plain.specs.Order.{sent_by, sent, are_apart, Attaches, AreFew, HaveSame}
-use Rattle.gp_plain.proofs.ChainLaw.{one_place, Came, Stands, Covered, Law, laws, nexts, none_any, and_left, and_right, same_ids, absurd_true}
+use Rattle.gp_plain.specs.Chain.{Link, Chain, AreDistinct, bytes_of, last_id}
+use Rattle.gp_plain.specs.Order.{sent_by, sent, are_apart, Attaches, AreFew, OrderLaw}
+use Rattle.gp_plain.proofs.ChainLaw.{one_place, Came, Stands, covered_stands, nexts, none_any, and_left, and_right, same_ids, absurd_true}
 
 -- the specifications of holds stay, and new ones come last
 
@@ -290,38 +290,26 @@ same_stands c first second opening start taken taken' s t d same few few' f g li
     (λ e. left_behind c first second opening start taken taken' s t (IsPermutation-sym first second same) few f g live e)
     (λ e. left_behind c second first opening start taken' taken t s same few' g f live' e)
 
-same_by : (c : Chain) (first second : List Item) (spec : HoldSpec) (taken taken' : List Piece) (s t : State) → AreDistinct c.root c.links → IsPermutation first second → length first ≤ 4096 → length second ≤ 4096
-    → Covered c first spec taken s → Covered c second spec taken' t
-    → CoversSpec c spec (λ opening start. s.ended ≡ None → t.ended ≡ None → (text (taken ++ s.pending) ≡ text (taken' ++ t.pending)) × (s.position ≡ t.position))
-same_by c first second (Stream opening channel prev link) taken taken' s t d same few few' f g = λ on at live live'. same_stands c first second opening prev taken taken' s t d same few few' (f on at) (g on at) live live'
-same_by c first second (Plain opening channels) taken taken' s t d same few few' f g = tt
-same_by c first second (Response channels prev deadline again) taken taken' s t d same few few' f g = tt
-same_by c first second Socket taken taken' s t d same few few' f g = tt
-
-law_at : (c : Chain) (items : List Item) (hs : List Held) (n : ℕ) (h : Held) → AllByRecursion (Law c items) hs → slice_get hs n ≡ Some h → Law c items h
-law_at c items [] n h all e = absurd_none e
-law_at c items (x ∷ hs) zero h all e = let same : x ≡ h = cc e in subst (Law c items) same all.0
-law_at c items (x ∷ hs) (suc n) h all e = law_at c items hs n h all.1 e
-
 same_some : {spec other : HoldSpec} → Some spec ≡ Some other → spec ≡ other
 same_some e = cc e
 
-pub order_law_holds : (c : Chain) (attaches first second : List Entry) → AreDistinct c.root c.links
-    → All (λ (e : Entry). Attaches e.event) attaches → AreFew (sent first) → AreFew (sent second) → IsPermutation (sent first) (sent second)
-    → CoversHistory c (attaches ++ first) → CoversHistory c (attaches ++ second)
-    → (number : ℕ) → number < length (held attaches) → HaveSame c (held (attaches ++ first)) (held (attaches ++ second)) number
-order_law_holds c attaches first second d attach few few' same cov cov' number within =
+same_stream : {opening opening' channel start start' : List ℕ} {link link' : Bool} → Stream opening channel start link ≡ Stream opening' channel start' link' → (opening ≡ opening') × (start ≡ start')
+same_stream e = (cc e, cc e)
+
+pub order_law_holds : OrderLaw
+order_law_holds = λ c attaches first second number h k attach within few few' same at v live at' v' live'.
     let all = recursion_from_All (λ (e : Entry). Attaches e.event) attaches attach in
     let ps = published_is attaches first all few in
     let qs = published_is attaches second all few' in
-    let perm : IsPermutation (published (attaches ++ first)) (published (attaches ++ second)) = subst (λ xs. IsPermutation xs (published (attaches ++ second))) (sym ps) (subst (IsPermutation (sent first)) (sym qs) same) in
-    let short : length (published (attaches ++ first)) ≤ 4096 = omega (arith, few.few, ap length ps) in
-    let short' : length (published (attaches ++ second)) ≤ 4096 = omega (arith, few'.few, ap length qs) in
-    record {
-      same = λ h k at at'.
-          let one : h.spec ≡ k.spec = same_some (spec_of attaches first number h within at ∙ sym (spec_of attaches second number k within at')) in
-          let f = (law_at c (published (attaches ++ first)) (held (attaches ++ first)) number h (laws c (attaches ++ first) d) at).law (recursion_from_All (CoversItem c) (published (attaches ++ first)) cov) in
-          let g = (law_at c (published (attaches ++ second)) (held (attaches ++ second)) number k (laws c (attaches ++ second) d) at').law (recursion_from_All (CoversItem c) (published (attaches ++ second)) cov') in
-          same_by c (published (attaches ++ first)) (published (attaches ++ second)) h.spec h.taken k.taken h.state k.state d perm short short' f
-          (subst (λ (spec : HoldSpec). Covered c (published (attaches ++ second)) spec k.taken k.state) (sym one) g);
-    }
+    let items = published (attaches ++ first) in
+    let items' = published (attaches ++ second) in
+    let perm : IsPermutation items items' = subst (λ xs. IsPermutation xs items') (sym ps) (subst (IsPermutation (sent first)) (sym qs) same) in
+    let short : length items ≤ 4096 = omega (arith, few.few, ap length ps) in
+    let short' : length items' ≤ 4096 = omega (arith, few'.few, ap length qs) in
+    let one : h.spec ≡ k.spec = same_some (spec_of attaches first number h within at ∙ sym (spec_of attaches second number k within at')) in
+    let both = same_stream (sym v.channel ∙ one ∙ v'.channel) in
+    let f = covered_stands c (attaches ++ first) number h at v in
+    let g = covered_stands c (attaches ++ second) number k at' v' in
+    let g' = subst (λ o. Stands c items' o v.start k.taken k.state) (sym both.0) (subst (λ p. Stands c items' v'.opening p k.taken k.state) (sym both.1) g) in
+    let alike = same_stands c items items' v.opening v.start h.taken k.taken h.state k.state v.distinct perm short short' f g' live live' in
+    record { text = alike.0; position = alike.1 }

@@ -1,6 +1,6 @@
 -- What an entry leaves of the holds.
 use Rattle.std.proofs.Common.{◌≡◌, ◌≢◌, ℕ, zero, suc, ◌+◌, ◌==◌, Bool, true, false, cond, not, List, [], ◌∷◌, ◌++◌, map, fold, arith, refl, sym, ap, ◌∙◌, subst, slice_get, Option, Some, None, option_map}
-use Rattle.std.specs.List.{All, AllByRecursion}
+use Rattle.std.specs.List.{All}
 use Rattle.std.proofs.lemmas.List.Sums.{fold-append}
 use Rattle.std.proofs.lemmas.List.Elements.{All-head, All-tail}
 use Rattle.std.proofs.lemmas.Bool.Decides.{nat_tests}
@@ -12,6 +12,7 @@ use Rattle.gp_plain.specs.Follow.{last_items, is_repeat}
 use Rattle.gp_plain.specs.Holds.{State, Held, is_live, offered, grew, settled_if, begun, taken_from, let_go}
 use Rattle.gp_plain.specs.History.{Past, has_place, changed_if, changed, served_by, with_item, with_hold, after_event, after, nothing, past_of, held}
 use Rattle.gp_plain.specs.Others.{Share, share_of, share_at, shares_from, IsOfAnother, OthersLaw, OwnersLaw, ReleasedLaw}
+use Rattle.gp_plain.proofs.Histories.{all_at}
 use Rattle.gp_plain.proofs.Released.{have_ended}
 
 differs_by : {a b : ℕ} → a ≢ b → (t : Bool) → (a == b) ≡ t → t ≡ false
@@ -116,7 +117,7 @@ others_law_holds = λ seen others number share is all.
 
 -- all holds of one owner, and entries of others
 
-abbrev share_if : ℕ → ℕ → Held → List (ℕ × Share) → List (ℕ × Share)
+abbrev pub share_if : ℕ → ℕ → Held → List (ℕ × Share) → List (ℕ × Share)
 share_if owner k h rest = cond (h.owner == owner) ((k, share_of h) ∷ rest) rest
 
 served_shares : (owner k : ℕ) (item : Item) (before later : List Item) (hs : List Held) → shares_from owner k (map (served_by item before later) hs) ≡ shares_from owner k hs
@@ -142,11 +143,11 @@ changed_shares owner who k zero f (h ∷ hs) ne same =
     changed_by owner k f h (shares_from owner (k + 1) hs) (not h.released) (h.owner == who) (λ own. differs h.owner owner (λ q. ne (sym (same_by h.owner who own) ∙ q))) (same h)
 changed_shares owner who k (suc m) f (h ∷ hs) ne same = ap (share_if owner k h) (changed_shares owner who (k + 1) m f hs ne same)
 
-attached_shares : (owner : ℕ) (past : Past) (h : Held) (place : Bool) → (h.owner == owner) ≡ false → shares_from owner 0 (cond place (with_hold past h) past).holds ≡ shares_from owner 0 past.holds
+pub attached_shares : (owner : ℕ) (past : Past) (h : Held) (place : Bool) → (h.owner == owner) ≡ false → shares_from owner 0 (cond place (with_hold past h) past).holds ≡ shares_from owner 0 past.holds
 attached_shares owner past h true e = pushed_shares owner 0 past.holds h e
 attached_shares owner past h false e = refl
 
-published_shares : (owner : ℕ) (past : Past) (item : Item) (repeat : Bool) → shares_from owner 0 (cond repeat past (with_item past item)).holds ≡ shares_from owner 0 past.holds
+pub published_shares : (owner : ℕ) (past : Past) (item : Item) (repeat : Bool) → shares_from owner 0 (cond repeat past (with_item past item)).holds ≡ shares_from owner 0 past.holds
 published_shares owner past item true = refl
 published_shares owner past item false = served_shares owner 0 item (last_items past.published) (last_items (past.published ++ item ∷ [])) past.holds
 
@@ -188,11 +189,6 @@ released_keep x who gone dead = record {
   serve = λ item before later h e. dead_stays item before later h (ap (λ (k : Held). is_live k.state) e ∙ dead) ∙ e;
   change = λ f h e. let_go_stays who f h (not h.released) (h.owner == who) (not_true (ap (λ (k : Held). k.released) e ∙ gone)) ∙ e;
 }
-
-all_at : (says : Held → Type 0) (hs : List Held) (n : ℕ) (h : Held) → AllByRecursion says hs → slice_get hs n ≡ Some h → says h
-all_at says [] n h all e = absurd (no_some e)
-all_at says (x ∷ xs) zero h all e = subst says (same_some e) all.0
-all_at says (x ∷ xs) (suc n) h all e = all_at says xs n h all.1 e
 
 same_view : {A : Type 0} (at : Option A) → option_map (λ (x : A). x) at ≡ at
 same_view None = refl

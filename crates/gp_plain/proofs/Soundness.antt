@@ -12,7 +12,7 @@ use Rattle.gp_plain.specs.declared.reply.Piece.{Piece}
 use Rattle.gp_plain.specs.declared.reply.EndCause.TheVariants.{Overflow, TimedOut, Retry}
 use Rattle.gp_plain.specs.Pieces.{moved, position_after, end_by, has_room, batch_count, batch, left}
 use Rattle.gp_plain.specs.Follow.{last_items}
-use Rattle.gp_plain.specs.Holds.{State, Held, terms_of, start_of, position_of, is_live, added, run, marked, missed, gapped, can_ask, offered, shows_gap, run_for, settled_if, grew, opened, followers, begun_state, timed, rest_of}
+use Rattle.gp_plain.specs.Holds.{State, Held, terms_of, start_of, position_of, is_live, added, run, marked, missed, gapped, can_ask, offered, shows_gap, run_for, settled_if, grew, opened, only_channel, followers, begun_state, timed, rest_of}
 use Rattle.gp_plain.specs.History.{held, published}
 use Rattle.gp_plain.proofs.Histories.{IsKept, in_each_history}
 
@@ -71,7 +71,7 @@ opened_fits Socket = record { terms_are = refl; position_is = refl }
 begun_fits : (spec : HoldSpec) (window : List Item) → Fits spec [] (begun_state spec window)
 begun_fits spec window =
     let s = opened spec in
-    let f = run_fits spec [] s (option_map_or (λ (at : List ℕ). followers s.terms.kind s.terms.channels at window) s.position []) (opened_fits spec) in
+    let f = run_fits spec [] s (option_map_or (λ (at : List ℕ). followers s.terms.kind (only_channel s.terms.channels) at window) s.position []) (opened_fits spec) in
     record { terms_are = f.terms_are; position_is = f.position_is }
 
 timed_by : (spec : HoldSpec) (taken : List Piece) (s : State) (live due wants : Bool) → Fits spec taken s

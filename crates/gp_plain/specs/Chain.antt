@@ -1,16 +1,15 @@
 -- Chains of items, and what they say of a log.
-use Rattle.std.specs.Prelude.{ℕ, ◌≡◌, ◌≢◌, ◌&&◌, false, List, [], ◌∷◌, ◌++◌, Option, Some, None, All}
+use Rattle.std.specs.Prelude.{ℕ, ◌≡◌, ◌≢◌, Bool, false, List, [], ◌∷◌, ◌++◌, slice_get, Option, Some, None, All}
 use Rattle.std.specs.List.{list_any}
-use Rattle.gp_plain.specs.Items.{content_of, closes}
+use Rattle.gp_plain.specs.Items.{content_of, closes, goes_on_from}
 use Rattle.gp_plain.specs.Pieces.{text}
-use Rattle.gp_plain.specs.Follow.{is_heard}
-use Rattle.gp_plain.specs.Holds.{Held, log, position, ended, terms_of, comes_next}
+use Rattle.gp_plain.specs.Holds.{Held, log, position, ended}
 use Rattle.gp_plain.specs.History.{held, published, window}
 use Rattle.gp_plain.specs.declared.item.Item.{Item}
 use Rattle.gp_plain.specs.declared.item.StreamPart.{StreamPart}
 use Rattle.gp_plain.specs.declared.event.Entry.{Entry}
 use Rattle.gp_plain.specs.declared.event.HoldSpec.{HoldSpec}
-use Rattle.gp_plain.specs.declared.event.HoldSpec.TheVariants.{Stream, Plain, Response, Socket}
+use Rattle.gp_plain.specs.declared.event.HoldSpec.TheVariants.{Stream}
 use Rattle.gp_plain.specs.declared.reply.Piece.{Piece}
 use Rattle.gp_plain.specs.declared.reply.EndCause.{EndCause}
 
@@ -75,9 +74,16 @@ CoversIds chain None prev stream = Unit {0}
 abbrev pub CoversItem : Chain → Item → Type 0
 CoversItem chain item = item.channel ≡ chain.channel → CoversIds chain item.id item.prev item.stream
 
--- every chained item that was published on the chain's channel, and wasn't a repeat, stands in the chain
-abbrev pub CoversHistory : Chain → List Entry → Type 0
-CoversHistory chain entries = All (CoversItem chain) (published entries)
+-- a chain covers a reliable stream hold of a history: it is on the hold's channel, the hold's first position is one of
+-- its ids, and every chained item that was published on the channel, and wasn't a repeat, stands in it
+pub record Covers (chain : Chain) (entries : List Entry) (number : ℕ) (h : Held) : Type 0 where
+  pub opening : List ℕ
+  pub start : List ℕ
+  pub link : Bool
+  pub distinct : AreDistinct chain.root chain.links
+  pub channel : h.spec ≡ Stream opening chain.channel start link
+  pub root : IsIn chain start
+  pub published : All (CoversItem chain) (published entries)
 
 abbrev pub NoneCloses : List Link → Type 0
 NoneCloses [] = Unit {0}
@@ -94,24 +100,17 @@ pub record FollowsLog (chain : Chain) (opening start : List ℕ) (pieces : List 
   pub still_open : ended ≡ None → NoneCloses between
   pub closes_last : (front : List Link) (l : Link) → between ≡ front ++ l ∷ [] → NoneCloses front
 
--- a chain covers a reliable stream hold where it is on the hold's channel and has its first position
-abbrev pub CoversSpec : Chain → HoldSpec → (List ℕ → List ℕ → Type 0) → Type 0
-CoversSpec chain (Stream opening channel prev link) then = channel ≡ chain.channel → IsIn chain prev → then opening prev
-CoversSpec chain (Plain opening channels) then = Unit {0}
-CoversSpec chain (Response channels prev deadline again) then = Unit {0}
-CoversSpec chain Socket then = Unit {0}
+-- each hold of a history that a chain covers follows it
+abbrev pub FollowsChains : List Entry → Type 0
+FollowsChains entries =
+    (chain : Chain) (number : ℕ) (h : Held) → slice_get (held entries) number ≡ Some h → (c : Covers chain entries number h) → FollowsLog chain c.opening c.start (log h) (position h) (ended h)
 
-abbrev pub Follows : Chain → Held → Type 0
-Follows chain h = CoversSpec chain h.spec (λ opening start. FollowsLog chain opening start (log h) (position h) (ended h))
-
--- the chain law: in every history, each reliable stream hold follows each chain that covers it
+-- the chain law
 abbrev pub ChainLaw : Type 0
-ChainLaw = (chain : Chain) (entries : List Entry) → AreDistinct chain.root chain.links → CoversHistory chain entries → All (Follows chain) (held entries)
+ChainLaw = (entries : List Entry) → FollowsChains entries
 
--- nothing of the window goes on from the position of a live hold
-abbrev pub HasAll : Chain → List Item → Held → Type 0
-HasAll chain window h = CoversSpec chain h.spec (λ opening start. ended h ≡ None → list_any (λ (item : Item). is_heard (terms_of h.spec).channels item && comes_next item (position h)) window ≡ false)
-
--- the law of the window: no chained item of it has the position of a live hold that a chain covers as its previous id
+-- the law of the window: no item of it goes on from the position of a live hold that a chain covers
 abbrev pub WindowLaw : Type 0
-WindowLaw = (chain : Chain) (entries : List Entry) → AreDistinct chain.root chain.links → CoversHistory chain entries → All (HasAll chain (window entries)) (held entries)
+WindowLaw =
+    (entries : List Entry) (chain : Chain) (number : ℕ) (h : Held) → slice_get (held entries) number ≡ Some h → Covers chain entries number h
+    → ended h ≡ None → (at : List ℕ) → position h ≡ Some at → list_any (goes_on_from chain.channel at) (window entries) ≡ false

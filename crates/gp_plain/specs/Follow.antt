@@ -1,7 +1,7 @@
--- The items that follow an id in a list of items, oldest first.
+-- The items that follow an id on a channel in a list of items, oldest first.
 use Rattle.std.specs.Prelude.{ℕ, zero, suc, ◌-◌, Bool, cond, ◌&&◌, List, [], ◌∷◌, length, drop, find, Option, Some, None}
 use Rattle.std.specs.List.{list_any}
-use Rattle.gp_plain.specs.Items.{comes_after, is_on, is_same}
+use Rattle.gp_plain.specs.Items.{is_on, is_same, goes_on_from}
 use Rattle.gp_plain.specs.Pieces.{id_or}
 use Rattle.gp_plain.specs.declared.item.Item.{Item}
 
@@ -17,10 +17,6 @@ is_heard channels item = list_any (λ (channel : List ℕ). is_on channel item) 
 abbrev pub is_repeat : List Item → Item → Bool
 is_repeat window item = list_any (λ (other : Item). is_on item.channel other && is_same item.id other.id) window
 
--- a chained item of the channels whose previous id is this one
-abbrev pub is_next : List (List ℕ) → List ℕ → Item → Bool
-is_next channels id item = is_heard channels item && comes_after item id
-
 -- a list without its first item of a kind
 abbrev pub without_first : (Item → Bool) → List Item → List Item
 without_first is [] = []
@@ -30,13 +26,13 @@ abbrev pub going_on : (Item → Bool) → List ℕ → (List ℕ → List Item) 
 going_on ends id rest None = []
 going_on ends id rest (Some item) = item ∷ cond (ends item) [] (rest (id_or item.id id))
 
--- so many items at most: the first of the channels that comes next at an id, and then those from its id on, in the
--- list without it; none where there is none, or behind an item that ends the hold
-abbrev pub follow_within : ℕ → List (List ℕ) → (Item → Bool) → List ℕ → List Item → List Item
-follow_within zero channels ends id items = []
-follow_within (suc n) channels ends id items =
-    going_on ends id (λ (next : List ℕ). follow_within n channels ends next (without_first (is_next channels id) items)) (find (is_next channels id) items)
+-- so many items at most: the first that goes on from an id on the channel, and then those from its id on, in the list
+-- without it; none where there is none, or behind an item that ends the hold
+abbrev pub follow_within : ℕ → List ℕ → (Item → Bool) → List ℕ → List Item → List Item
+follow_within zero channel ends id items = []
+follow_within (suc n) channel ends id items =
+    going_on ends id (λ (next : List ℕ). follow_within n channel ends next (without_first (goes_on_from channel id) items)) (find (goes_on_from channel id) items)
 
--- all items of the list that follow an id: each is taken once
-abbrev pub follow : List (List ℕ) → (Item → Bool) → List ℕ → List Item → List Item
-follow channels ends id items = follow_within (length items) channels ends id items
+-- all items of the list that follow an id on the channel: each is taken once
+abbrev pub follow : List ℕ → (Item → Bool) → List ℕ → List Item → List Item
+follow channel ends id items = follow_within (length items) channel ends id items

@@ -1,5 +1,5 @@
 -- A hold, and what happens to it.
-use Rattle.std.specs.Prelude.{ℕ, ◌+◌, Bool, true, false, cond, nat_le, nat_lt, not, ◌&&◌, ◌||◌, List, [], ◌∷◌, ◌++◌, length, map, filter, fold, Option, Some, None, is_some, option_map}
+use Rattle.std.specs.Prelude.{ℕ, ◌+◌, Bool, true, false, cond, nat_le, nat_lt, not, ◌&&◌, ◌||◌, List, [], ◌∷◌, ◌++◌, length, map, fold, Option, Some, None, is_some, option_map}
 use Rattle.std.specs.Option.{option_map_or, option_to_list}
 use Rattle.gp_plain.specs.Items.{is_chained, is_id, comes_after, content_of, closes}
 use Rattle.gp_plain.specs.Follow.{is_heard, follow}
@@ -31,6 +31,11 @@ terms_of (Stream opening channel prev link) = record { kind = StreamKind; channe
 terms_of (Plain opening channels) = record { kind = PlainKind; channels = channels; link = false; deadline = None }
 terms_of (Response channels prev deadline again) = record { kind = ResponseKind; channels = channels; link = false; deadline = Some deadline }
 terms_of Socket = record { kind = SocketKind; channels = []; link = false; deadline = None }
+
+-- the channel of a hold with a position: it has one
+abbrev pub only_channel : List (List ℕ) → List ℕ
+only_channel [] = []
+only_channel (channel ∷ channels) = channel
 
 -- the opening of a stream is the first piece of its log
 abbrev pub openings : HoldSpec → List Piece
@@ -138,14 +143,14 @@ ends_by PlainKind item = closes item.stream
 ends_by ResponseKind item = is_some item.response
 ends_by SocketKind item = false
 
--- the pieces of the items of a window that follow an id
-abbrev pub followers : HoldKind → List (List ℕ) → List ℕ → List Item → List Piece
-followers kind channels id window = map (piece_by kind) (follow channels (ends_by kind) id window)
+-- the pieces of the items of a window that follow an id on the channel
+abbrev pub followers : HoldKind → List ℕ → List ℕ → List Item → List Piece
+followers kind channel id window = map (piece_by kind) (follow channel (ends_by kind) id window)
 
 -- a chained item that comes next, and then those of the window that follow it
-abbrev pub chain_run : HoldKind → List (List ℕ) → Option (List ℕ) → Item → List Item → List Piece
-chain_run kind channels at item window =
-    cond (comes_next item at) (piece_by kind item ∷ cond (ends_by kind item) [] (option_map_or (λ (id : List ℕ). followers kind channels id window) item.id [])) []
+abbrev pub chain_run : HoldKind → List ℕ → Option (List ℕ) → Item → List Item → List Piece
+chain_run kind channel at item window =
+    cond (comes_next item at) (piece_by kind item ∷ cond (ends_by kind item) [] (option_map_or (λ (id : List ℕ). followers kind channel id window) item.id [])) []
 
 -- an item that a hold has a part of is its piece
 abbrev pub stream_piece : Option StreamPart → Item → List Piece
@@ -158,10 +163,10 @@ answer_piece (Some part) item = answer_of item ∷ []
 
 -- the run that an item on one of its channels brings a hold, by its kind and its position
 abbrev pub run_by : HoldKind → List (List ℕ) → Option (List ℕ) → Item → List Item → List Piece
-run_by StreamKind channels at item window = chain_run StreamKind channels at item window
+run_by StreamKind channels at item window = chain_run StreamKind (only_channel channels) at item window
 run_by PlainKind channels at item window = stream_piece item.stream item
 run_by ResponseKind channels None item window = answer_piece item.response item
-run_by ResponseKind channels (Some at) item window = chain_run ResponseKind channels (Some at) item window
+run_by ResponseKind channels (Some at) item window = chain_run ResponseKind (only_channel channels) (Some at) item window
 run_by SocketKind channels at item window = []
 
 abbrev pub run_for : Terms → Option (List ℕ) → Item → List Item → List Piece
@@ -201,7 +206,7 @@ grew before after = nat_lt (length before.pending) (length after.pending)
 -- the items of a window show that there is more than the position
 abbrev pub is_ahead : Terms → Option (List ℕ) → List Item → Bool
 is_ahead terms None window = false
-is_ahead terms (Some at) window = ahead at (filter (is_heard terms.channels) window)
+is_ahead terms (Some at) window = ahead (only_channel terms.channels) at window
 
 -- a hold that went on, and for which nothing is ahead, misses nothing any more
 abbrev pub settled : List Item → State → State
@@ -227,7 +232,7 @@ opened spec = record { terms = terms_of spec; pending = openings spec; position 
 
 -- what follows the first position in the window is added at once
 abbrev pub caught_up : List Item → State → State
-caught_up window s = run s (option_map_or (λ (at : List ℕ). followers s.terms.kind s.terms.channels at window) s.position [])
+caught_up window s = run s (option_map_or (λ (at : List ℕ). followers s.terms.kind (only_channel s.terms.channels) at window) s.position [])
 
 -- a hold begins with its opening, and with what follows its first position in the window
 abbrev pub begun_state : HoldSpec → List Item → State

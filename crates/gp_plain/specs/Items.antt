@@ -26,6 +26,10 @@ comes_after item id = is_some item.id && is_id item.prev id
 abbrev pub is_on : List ℕ → Item → Bool
 is_on channel item = same_id item.channel channel
 
+-- a chained item of the channel whose previous id is this one: it goes on from the id on the channel
+abbrev pub goes_on_from : List ℕ → List ℕ → Item → Bool
+goes_on_from channel id item = comes_after item id && is_on channel item
+
 -- what a stream is sent of an item: a missing part and a close give no byte
 abbrev pub content_of : Option StreamPart → List ℕ
 content_of None = []

@@ -9,7 +9,10 @@ pub mod Holds
 pub mod Growth
 pub mod Plans
 pub mod History
+pub mod Refusals
 pub mod Standing
+pub mod Ends
+pub mod Kinds
 pub mod Chain
 pub mod Order
 pub mod Others

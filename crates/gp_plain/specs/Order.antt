@@ -5,7 +5,7 @@ use Rattle.gp_plain.specs.Follow.{is_repeat}
 use Rattle.gp_plain.specs.Pieces.{text}
 use Rattle.gp_plain.specs.Holds.{Held, log, position, ended}
 use Rattle.gp_plain.specs.History.{held}
-use Rattle.gp_plain.specs.Chain.{Chain, AreDistinct, CoversHistory, CoversSpec}
+use Rattle.gp_plain.specs.Chain.{Chain, Covers}
 use Rattle.gp_plain.specs.declared.item.Item.{Item}
 use Rattle.gp_plain.specs.declared.event.Entry.{Entry}
 use Rattle.gp_plain.specs.declared.event.Event.{Event}
@@ -47,14 +47,18 @@ pub record AreFew (items : List Item) : Type 0 where
   pub few : length items < 4096
   pub apart : are_apart items ≡ true
 
--- the two holds of a number have the same text and the same position, where the chain covers them and neither ended
-pub record HaveSame (chain : Chain) (first second : List Held) (number : ℕ) : Type 0 where
-  pub same : (h k : Held) → slice_get first number ≡ Some h → slice_get second number ≡ Some k
-      → CoversSpec chain h.spec (λ opening start. ended h ≡ None → ended k ≡ None → (text (log h) ≡ text (log k)) × (position h ≡ position k))
+-- two holds have the same text and the same position
+pub record HaveSame (h k : Held) : Type 0 where
+  pub text : text (log h) ≡ text (log k)
+  pub position : position h ≡ position k
 
--- the law of order: two histories that begin with the same attaches, and that publish the same items in any order
+-- the law of order: two histories that begin with the same attaches, and that publish the same items in any order, leave
+-- each hold of those attaches, which a chain covers in both and which ended in neither, with the same text and position
 abbrev pub OrderLaw : Type 0
-OrderLaw = (chain : Chain) (attaches first second : List Entry) → AreDistinct chain.root chain.links
-    → All (λ (entry : Entry). Attaches entry.event) attaches → AreFew (sent first) → AreFew (sent second) → IsPermutation (sent first) (sent second)
-    → CoversHistory chain (attaches ++ first) → CoversHistory chain (attaches ++ second)
-    → (number : ℕ) → number < length (held attaches) → HaveSame chain (held (attaches ++ first)) (held (attaches ++ second)) number
+OrderLaw =
+    (chain : Chain) (attaches first second : List Entry) (number : ℕ) (h k : Held)
+    → All (λ (entry : Entry). Attaches entry.event) attaches → number < length (held attaches)
+    → AreFew (sent first) → AreFew (sent second) → IsPermutation (sent first) (sent second)
+    → slice_get (held (attaches ++ first)) number ≡ Some h → Covers chain (attaches ++ first) number h → ended h ≡ None
+    → slice_get (held (attaches ++ second)) number ≡ Some k → Covers chain (attaches ++ second) number k → ended k ≡ None
+    → HaveSame h k

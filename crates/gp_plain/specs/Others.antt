@@ -1,8 +1,11 @@
 -- What only the owner of a hold moves, and what entries of others leave as it is.
-use Rattle.std.specs.Prelude.{ℕ, ◌≡◌, ◌≢◌, ◌+◌, ◌==◌, Bool, true, cond, All, List, [], ◌∷◌, ◌++◌, slice_get, Option, Some, option_map}
+use Rattle.std.specs.Prelude.{ℕ, ⊤, ◌≡◌, ◌≢◌, ◌+◌, ◌==◌, Bool, true, cond, All, List, [], ◌∷◌, ◌++◌, slice_get, Option, Some, option_map}
 use Rattle.gp_plain.specs.Holds.{Held}
 use Rattle.gp_plain.specs.History.{held}
 use Rattle.gp_plain.specs.declared.event.Entry.{Entry}
+use Rattle.gp_plain.specs.Order.{Attaches}
+use Rattle.gp_plain.specs.declared.event.Event.{Event}
+use Rattle.gp_plain.specs.declared.event.Event.TheVariants.{Attach, Publish, Take, Page, PageFailed, Push, Join, Leave, Detach}
 use Rattle.gp_plain.specs.declared.event.HoldSpec.{HoldSpec}
 use Rattle.gp_plain.specs.declared.reply.Piece.{Piece}
 use Rattle.gp_plain.specs.declared.reply.EndCause.{EndCause}
@@ -47,3 +50,33 @@ OwnersLaw = (seen others : List Entry) (owner : ℕ) → All (IsOfAnother owner)
 -- nothing moves a hold that was let go
 abbrev pub ReleasedLaw : Type 0
 ReleasedLaw = (seen more : List Entry) (number : ℕ) (h : Held) → slice_get (held seen) number ≡ Some h → h.released ≡ true → slice_get (held (seen ++ more)) number ≡ Some h
+
+-- nor anything of what its owner moves
+abbrev pub ReleasedShareLaw : Type 0
+ReleasedShareLaw = (seen more : List Entry) (number : ℕ) (share : Share) → share_at (held seen) number ≡ Some share → share.released ≡ true → share_at (held (seen ++ more)) number ≡ Some share
+
+-- no Attach of the owner
+abbrev pub IsNoAttachOf : ℕ → Entry → Type 0
+IsNoAttachOf owner entry = entry.who ≡ owner → Attaches entry.event → ⊥
+
+-- where all holds of an owner were let go, only an Attach of its own changes the list of them
+abbrev pub ReleasedSharesLaw : Type 0
+ReleasedSharesLaw =
+    (seen more : List Entry) (owner : ℕ) → All (λ (s : ℕ × Share). s.1.released ≡ true) (shares owner seen) → All (IsNoAttachOf owner) more
+    → shares owner (seen ++ more) ≡ shares owner seen
+
+-- an Attach, a Take and a Detach move what owners have of their holds
+abbrev pub MovesShares : Event → Type 0
+MovesShares (Attach spec) = ⊤
+MovesShares (Publish item) = ⊥
+MovesShares (Take hold now) = ⊤
+MovesShares (Page hold from to bytes then) = ⊥
+MovesShares (PageFailed hold) = ⊥
+MovesShares (Push hold message) = ⊥
+MovesShares (Join hold channel) = ⊥
+MovesShares (Leave hold channel) = ⊥
+MovesShares (Detach hold) = ⊤
+
+-- no other event does, whoever makes it
+abbrev pub MovesLaw : Type 0
+MovesLaw = (seen more : List Entry) (owner : ℕ) → All (λ (entry : Entry). MovesShares entry.event → ⊥) more → shares owner (seen ++ more) ≡ shares owner seen

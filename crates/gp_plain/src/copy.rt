@@ -2,6 +2,7 @@
 ghost use Rattle.std.specs.Prelude.{◌≡◌, IfOk};
 
 use crate::body::Body;
+use crate::http::Address;
 use crate::item::{Field, Fields, Item, Message, MessagePart, Names, ResponsePart, StreamPart};
 use crate::list::List;
 use crate::name::copy_id;
@@ -39,6 +40,19 @@ pub fn copy_fields(alloc: Global, fields: &Fields) -> Result<Fields, AllocError>
         copy.push(field.copy(alloc)?)?;
     }
     Ok(List::from_vec(copy))
+}
+
+impl Address {
+    /// An equal address.
+    pub fn copy(&self, alloc: Global) -> Result<Address, AllocError>
+        ensures { IfOk result (λ copy. copy ≡ self.now) }
+    {
+        let host = self.host.copy(alloc)?;
+        Ok(Address {
+            host,
+            port: self.port,
+        })
+    }
 }
 
 impl ResponsePart {

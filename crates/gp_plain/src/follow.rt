@@ -1,5 +1,5 @@
 //! The items of a window that follow an id, as pieces.
-ghost use Rattle.std.specs.Prelude.{◌≡◌, ◌∷◌, [], OnOk};
+ghost use Rattle.std.specs.Prelude.{◌≡◌, OnOk};
 ghost use Rattle.gp_plain.specs.Growth.{IsWithin, with_pieces};
 ghost use Rattle.gp_plain.specs.Holds.{followers};
 
@@ -23,7 +23,7 @@ impl Run {
         window: &I,
     ) -> Result<(), AllocError>
         requires { IsWithin to.now.items self.old.pieces }
-        ensures { OnOk result ((self.new ≡ with_pieces to.now.items self.old (followers kind (channel.now ∷ []) from.now (I.items window.now))) × IsWithin to.now.items self.new.pieces) }
+        ensures { OnOk result ((self.new ≡ with_pieces to.now.items self.old (followers kind channel.now from.now (I.items window.now))) × IsWithin to.now.items self.new.pieces) }
     {
         let mut used = Places::new(alloc);
         let mut at = from;

@@ -1,7 +1,9 @@
 //! The laws of the definitions, each the contract of a call.
 ghost use Rattle.gp_plain.specs.Chain.{ChainLaw, WindowLaw};
+ghost use Rattle.gp_plain.specs.Kinds.{KindLaw};
 ghost use Rattle.gp_plain.specs.Order.{OrderLaw};
-ghost use Rattle.gp_plain.specs.Others.{OthersLaw, OwnersLaw, ReleasedLaw};
+ghost use Rattle.gp_plain.specs.Ends.{AnswerLaw, PositionLaw, ToldLaw};
+ghost use Rattle.gp_plain.specs.Others.{MovesLaw, OthersLaw, OwnersLaw, ReleasedLaw, ReleasedShareLaw, ReleasedSharesLaw};
 
 /// The chain law. In every history, whatever the order of its entries: for every chain that covers a reliable
 /// stream hold, the text of the hold's log is its opening and then the contents of the chain's items between the
@@ -40,4 +42,42 @@ pub fn owners_law()
 /// The law of released holds. Nothing changes anything of a hold once it was let go.
 pub fn released_law()
     ensures { ReleasedLaw }
+{}
+
+/// The law of released shares. What was taken of a hold that was let go, and all else of it that only its owner moves,
+/// stays as it is. Where all holds of an owner were let go, so does the list of them, until the owner attaches another.
+pub fn released_shares_law()
+    ensures one { ReleasedShareLaw }
+    ensures all { ReleasedSharesLaw }
+{}
+
+/// The law of moves. Only an Attach, a Take and a Detach change what owners have of their holds.
+pub fn moves_law()
+    ensures { MovesLaw }
+{}
+
+/// The law of positions. The position of a hold is the id of the last piece of its log that has one, or its first position.
+pub fn position_law()
+    ensures { PositionLaw }
+{}
+
+/// The law of told ends. Where a Take told an end, nothing waits for the hold, and it ended by that cause and was let go. A
+/// hold that was let go has ended.
+pub fn told_law()
+    ensures { ToldLaw }
+{}
+
+/// The law of answers. A piece that brings an end is the last of its log, and the hold ended by it. So the log of a response
+/// hold has at most one answer, which is its last piece, and the hold ended Answered exactly by it.
+pub fn answer_law()
+    ensures { AnswerLaw }
+{}
+
+/// The law of kinds. What a Take gives of a kept hold fits what the hold was attached with: it never tells Detached. A stream
+/// recovers only with a link and while it is live, and ends Closed, Gap without a link, Overflow or Unrecovered. A plain
+/// stream and a socket never recover, and end Closed or Overflow. A response hold recovers exactly where it ends Retry, which
+/// needs a previous id, and else ends Answered, TimedOut or Overflow. A piece that brings an end is the last that is given, and
+/// the end is told with it; Answered is told exactly so.
+pub fn kind_law()
+    ensures { KindLaw }
 {}

@@ -24,11 +24,14 @@ mod run;
 mod tail;
 
 pub use body::Body;
-pub use copy::copy_names;
+pub use copy::{copy_fields, copy_names};
 pub use event::{Entry, Event, HoldKind, HoldSpec, Then};
 pub use http::{Address, Request, Response, Signer};
 pub use item::{Field, Fields, Item, Items, Message, MessagePart, Names, ResponsePart, StreamPart};
-pub use law::{chain_law, order_law, others_law, owners_law, released_law, window_law};
+pub use law::{
+    answer_law, chain_law, kind_law, moves_law, order_law, others_law, owners_law, position_law,
+    released_law, released_shares_law, told_law, window_law,
+};
 pub use list::List;
 pub use name::{ItemId, Name, NameFault, copy_id};
 pub use pending::Pending;

@@ -39,13 +39,6 @@ impl<T> List<T> {
         }
     }
 
-    /// Makes room for so many more items. The items stay as they are.
-    pub fn reserve(&mut self, more: usize) -> Result<(), AllocError>
-        ensures { self.new ≡ self.old }
-    {
-        self.items.reserve(more)
-    }
-
     /// How many items it has.
     pub fn len(&self) -> usize
         ensures { result ≡ length self.now }

@@ -28,10 +28,13 @@ pub struct Name {
 
 impl Model for Name {
     ghost use Rattle.std.specs.Prelude.{List, ℕ};
+    ghost use Rattle.gp_plain.specs.Names.{IsName};
 
     ghost Value = { List ℕ };
 
     ghost view = { λ n. n.bytes };
+
+    ghost invariant = { λ n. IsName n.bytes };
 }
 
 /// The id of an item, in the form of a name.
@@ -42,10 +45,13 @@ pub struct ItemId {
 
 impl Model for ItemId {
     ghost use Rattle.std.specs.Prelude.{List, ℕ};
+    ghost use Rattle.gp_plain.specs.Names.{IsName};
 
     ghost Value = { List ℕ };
 
     ghost view = { λ n. n.bytes };
+
+    ghost invariant = { λ n. IsName n.bytes };
 }
 
 fn is_barred(byte: u8) -> bool
@@ -119,9 +125,10 @@ impl Name {
         })
     }
 
-    /// The bytes that spell it.
+    /// The bytes that spell it: 1 to 255, none of which may not stand at its place.
     pub fn bytes(&self) -> &[u8]
-        ensures { result.now ≡ self.now }
+        ensures bytes { result.now ≡ self.now }
+        ensures form { IsName self.now }
     {
         self.bytes.bytes()
     }
@@ -163,9 +170,10 @@ impl ItemId {
         })
     }
 
-    /// The bytes that spell it.
+    /// The bytes that spell it: 1 to 255, none of which may not stand at its place.
     pub fn bytes(&self) -> &[u8]
-        ensures { result.now ≡ self.now }
+        ensures bytes { result.now ≡ self.now }
+        ensures form { IsName self.now }
     {
         self.bytes.bytes()
     }

@@ -46,7 +46,7 @@ impl Run {
         item: &Item,
         window: &I,
     ) -> Result<Run, AllocError>
-        ensures { IfOk result (λ run. (run ≡ with_pieces to.now.items no_growth (piece_by kind item.now ∷ cond (ends_by kind item.now) [] (option_map_or (λ id. followers kind (channel.now ∷ []) id (I.items window.now)) item.now.id []))) × IsWithin to.now.items run.pieces) }
+        ensures { IfOk result (λ run. (run ≡ with_pieces to.now.items no_growth (piece_by kind item.now ∷ cond (ends_by kind item.now) [] (option_map_or (λ id. followers kind channel.now id (I.items window.now)) item.now.id []))) × IsWithin to.now.items run.pieces) }
     {
         let mut run = Run::behind(to);
         run.add(to, item.piece_for(alloc, kind)?)?;

@@ -1,6 +1,6 @@
 ghost use Rattle.std.specs.Prelude.{ℕ, ◌≡◌, ◌++◌, ◌∷◌, [], MatchOption, eqb, OnOk, OnErr, option_map, slice_get};
 ghost use Rattle.std.specs.List.{list_any};
-ghost use Rattle.gp_plain.specs.Tails.{IsNextAfter, IsNoNextAfter, ahead, on_channel};
+ghost use Rattle.gp_plain.specs.Tails.{IsNextAfter, IsNoNextAfter, ahead};
 
 use crate::item::Item;
 use crate::name::{ItemId, Name};
@@ -75,5 +75,5 @@ pub trait Tail {
     /// Whether some item of the channel shows that there is more than `id`: it has an id and a previous id,
     /// its id isn't `id`, and no such item of the channel has it as previous id.
     fn ahead(&self, channel: &Name, id: &ItemId) -> bool
-        ensures { result ≡ ahead id.now (on_channel channel.now (items self.now)) };
+        ensures { result ≡ ahead channel.now id.now (items self.now) };
 }

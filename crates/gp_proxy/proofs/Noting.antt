@@ -13,11 +13,10 @@ use Rattle.gp_plain.specs.declared.reply.Piece.{Piece}
 use Rattle.gp_plain.specs.declared.reply.EndCause.{EndCause}
 use Rattle.gp_plain.specs.declared.reply.Reply.{Reply}
 use Rattle.gp_plain.specs.declared.reply.Reply.TheVariants.{Attached, Full, Published, Repeat, Taken, Paged, Stale, Done, Foreign, Gone, OtherKind, Unknown}
-use Rattle.gp_plain.specs.Pieces.{moved, position_after, batch, left, text}
+use Rattle.gp_plain.specs.Pieces.{piece_bytes, moved, position_after, batch, left, text}
 use Rattle.gp_plain.specs.Follow.{last_items, is_repeat}
 use Rattle.gp_plain.specs.Holds.{State, Held, pending, position, ended, log, start_of, position_of, terms_of, is_live, offered, settled_if, grew, begun, timed, taken_of, taken_from, let_go, end_or_detached, ends_now}
 use Rattle.gp_plain.specs.History.{Past, has_place, if_kept, kept_at, refused_or, changed, served_by, with_item, with_hold, after_event, answer, pending_at, cause_at}
-use Rattle.gp_plain.proofs.ChainLaw.{text-append}
 use Rattle.gp_script.specs.Texts.{hold_text, piece_text, end_text}
 use Rattle.gp_proxy.specs.declared.log.Log.{Log}
 use Rattle.gp_proxy.specs.Logs.{log_of, noted_of, begun_if, taken_if, let_go_if, after_note, log_position, whole_text, or_end}
@@ -168,7 +167,7 @@ whole_is number spec xs ys kept ended =
     let at = position_by spec xs ys (terms_of spec).kind kept in
     ap (λ b. hold_text number (terms_of spec).kind ++ b)
     (ap (λ p. flat_map piece_text xs ++ (flat_map piece_text ys ++ end_text (text xs ++ text ys) p ended)) at
-    ∙ ap (λ t. flat_map piece_text xs ++ (flat_map piece_text ys ++ end_text t (position_of spec (xs ++ ys)) ended)) (sym (text-append xs ys))
+    ∙ ap (λ t. flat_map piece_text xs ++ (flat_map piece_text ys ++ end_text t (position_of spec (xs ++ ys)) ended)) (sym (flat_map-append piece_bytes xs ys))
     ∙ sym (append_assoc (flat_map piece_text xs) (flat_map piece_text ys) (end_text (text (xs ++ ys)) (position_of spec (xs ++ ys)) ended))
     ∙ ap (λ b. b ++ end_text (text (xs ++ ys)) (position_of spec (xs ++ ys)) ended) (sym (flat_map-append piece_text xs ys)))
 

@@ -1,17 +1,15 @@
 -- Scripts that are played event by event, and logs that are written one by one.
-use Rattle.std.proofs.Common.{◌≡◌, ℕ, zero, suc, ◌+◌, ◌<◌, ◌⊎◌, inl, inr, List, [], ◌∷◌, ◌++◌, length, take, get_or, slice_get, map, Some, None, refl, sym, ap, ◌∙◌, subst, append_assoc, arith}
+use Rattle.std.proofs.Common.{◌≡◌, ℕ, zero, suc, ◌+◌, ◌<◌, ◌⊎◌, inl, inr, true, false, List, [], ◌∷◌, ◌++◌, length, take, get_or, slice_get, map, Some, None, refl, sym, ap, ◌∙◌, subst, append_assoc, arith}
 use Rattle.std.proofs.lemmas.List.{append-nil, map-append, take_more}
 use Rattle.std.proofs.lemmas.List.Sums.{fold-append}
 use Rattle.gp_plain.specs.declared.event.Event.{Event}
 use Rattle.gp_plain.specs.declared.event.Entry.{Entry}
 use Rattle.gp_plain.specs.declared.reply.Reply.{Reply}
 use Rattle.std.specs.List.{AllByRecursion}
-use Rattle.gp_plain.specs.declared.item.Item.{Item}
-use Rattle.gp_plain.specs.Holds.{Held, log, position, position_of}
-use Rattle.gp_plain.specs.History.{Past, after, nothing, past_of, held, published, reply}
+use Rattle.gp_plain.specs.Holds.{Held, is_live}
+use Rattle.gp_plain.specs.History.{Past, after, nothing, past_of, held, reply}
 use Rattle.gp_plain.specs.Standing.{Standing, StandsFor}
-use Rattle.gp_plain.proofs.Soundness.{IsSound, are_sound}
-use Rattle.gp_plain.proofs.Released.{have_ended}
+use Rattle.gp_plain.specs.Ends.{HasToldEnd, ToldLaw}
 use Rattle.gp_script.specs.Texts.{reply_text}
 use Rattle.gp_proxy.specs.declared.log.Log.{Log}
 use Rattle.gp_proxy.specs.declared.log.Noted.{Noted}
@@ -51,24 +49,20 @@ absurd_some e = cc
 held_more : (past : List Entry) (e : Entry) → held (past ++ e ∷ []) ≡ (after (past_of past) e).holds
 held_more past e = ap (λ (p : Past). p.holds) (fold-append after nothing past (e ∷ []))
 
-sound_by : (items : List Item) (hs : List Held) (i : ℕ) (h : Held) → AllByRecursion (IsSound items) hs → slice_get hs i ≡ Some h → position h ≡ position_of h.spec (log h)
-sound_by items [] i h all e = absurd_some e
-sound_by items (x ∷ hs) zero h all e = let same : x ≡ h = cc e in subst (λ (k : Held). position k ≡ position_of k.spec (log k)) same all.0.position_is
-sound_by items (x ∷ hs) (suc i) h all e = sound_by items hs i h all.1 e
-
--- the position of a hold of a history is the one behind its log
-pub position_is : (past : List Entry) (i : ℕ) (h : Held) → slice_get (held past) i ≡ Some h → position h ≡ position_of h.spec (log h)
-position_is past i h at = sound_by (published past) (held past) i h (are_sound past) at
+-- what a law says of the hold of each number, it says of all
+each_ended : (hs : List Held) → ((number : ℕ) (h : Held) → slice_get hs number ≡ Some h → HasToldEnd h) → AllByRecursion (λ (h : Held). h.released ≡ true → is_live h.state ≡ false) hs
+each_ended [] law = tt
+each_ended (h ∷ hs) law = ((law 0 h refl).released, each_ended hs (λ number k at. law (suc number) k at))
 
 -- what is kept after a noted event
-pub logs_after : (past : List Entry) (event : Event) (logs now : List Log) (noted : Noted) (answered : Reply) → logs ≡ map log_of (held past) → noted ≡ noted_of (held past) event → answered ≡ reply past 0 event
+pub logs_after : ToldLaw → (past : List Entry) (event : Event) (logs now : List Log) (noted : Noted) (answered : Reply) → logs ≡ map log_of (held past) → noted ≡ noted_of (held past) event → answered ≡ reply past 0 event
     → now ≡ after_note logs noted answered → now ≡ map log_of (held (past ++ entry_of event ∷ []))
-logs_after past event logs now noted answered were is said now_is =
+logs_after law past event logs now noted answered were is said now_is =
     now_is
     ∙ ap (λ ls. after_note ls noted answered) were
     ∙ ap (λ n. after_note (map log_of (held past)) n answered) is
     ∙ ap (λ r. after_note (map log_of (held past)) (noted_of (held past) event) r) said
-    ∙ sym (noted_law (past_of past) event (have_ended past))
+    ∙ sym (noted_law (past_of past) event (each_ended (held past) (law past)))
     ∙ ap (map log_of) (sym (held_more past (entry_of event)))
 
 hold_by : (hs : List Held) (i : ℕ) (l : Log) → slice_get (map log_of hs) i ≡ Some l → (h : Held) × (slice_get hs i ≡ Some h) × (l ≡ log_of h)

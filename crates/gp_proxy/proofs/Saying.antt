@@ -3,7 +3,7 @@ use Rattle.std.proofs.Common.{◌≡◌, inl, inr, ℕ, List, [], take, Option, 
 use mathlib.Core.List.{IsPrefix}
 use Rattle.gp_plain.specs.declared.event.Event.{Event}
 use Rattle.gp_plain.specs.Standing.{Standing, StandsFor}
-use Rattle.gp_plain.proofs.ChainLaw.{chain_law_holds}
+use Rattle.gp_plain.specs.Chain.{ChainLaw}
 use Rattle.gp_outside.specs.Counts.{grown}
 use Rattle.gp_outside.specs.Devices.{SinkTells, WroteAll, WrotePart}
 use Rattle.gp_proxy.specs.Scripts.{entries_of}
@@ -35,26 +35,26 @@ stopped play events status count is loaded written stands =
     let said : Says NoMemory play = inr (events, count, record { script = loaded; written = written; stands = stands }) in
     subst (λ (s : Status). Says s play) (sym is) said
 
-pub done : (play : Play) (events : List Event) (text : List ℕ) → IsLoaded (load_of play) events → text ≡ output events → WroteAll play.sink play.sink_after text → StandsFor play.stands (entries_of events) → Says Done play
-done play events text loaded is wrote stands = (
+pub done : ChainLaw → (play : Play) (events : List Event) (text : List ℕ) → IsLoaded (load_of play) events → text ≡ output events → WroteAll play.sink play.sink_after text → StandsFor play.stands (entries_of events) → Says Done play
+done law play events text loaded is wrote stands = (
   events,
   record {
     script = loaded;
     written = wrote.whole ∙ ap (grown play.sink.written) is;
     stands = stands;
-    follows = λ chain distinct covers. chain_law_holds chain (entries_of events) distinct covers;
+    follows = law (entries_of events);
   },
 )
 
-pub cut_off : (play : Play) (events : List Event) (text : List ℕ) → IsLoaded (load_of play) events → text ≡ output events → WrotePart play.sink play.sink_after text → StandsFor play.stands (entries_of events) → Says SinkFault play
-cut_off play events text loaded is wrote stands = (
+pub cut_off : ChainLaw → (play : Play) (events : List Event) (text : List ℕ) → IsLoaded (load_of play) events → text ≡ output events → WrotePart play.sink play.sink_after text → StandsFor play.stands (entries_of events) → Says SinkFault play
+cut_off law play events text loaded is wrote stands = (
   events,
   record {
     script = loaded;
     fault = wrote.rose;
     written = (wrote.part.0, subst (λ (t : List ℕ). IsPrefix wrote.part.0 t) is wrote.part.1, wrote.part.2);
     stands = stands;
-    follows = λ chain distinct covers. chain_law_holds chain (entries_of events) distinct covers;
+    follows = law (entries_of events);
   },
 )
 

@@ -1,10 +1,9 @@
 -- What a status of `replay` says.
-use Rattle.std.specs.Prelude.{ℕ, ◌≡◌, ◌<◌, ◌≤◌, ◌⊎◌, List, [], length, take, All, Option, Some}
+use Rattle.std.specs.Prelude.{ℕ, ◌≡◌, ◌<◌, ◌≤◌, ◌⊎◌, List, [], length, take, Option, Some}
 use mathlib.Core.List.{IsPrefix}
 use Rattle.gp_plain.specs.declared.event.Event.{Event}
-use Rattle.gp_plain.specs.History.{held}
 use Rattle.gp_plain.specs.Standing.{Standing, StandsFor}
-use Rattle.gp_plain.specs.Chain.{Chain, AreDistinct, CoversHistory, Follows}
+use Rattle.gp_plain.specs.Chain.{FollowsChains}
 use Rattle.gp_outside.specs.Counts.{Rose, grown}
 use Rattle.gp_outside.specs.Devices.{SinkTells}
 use Rattle.gp_proxy.specs.Scripts.{IsScript, IsOnlyScript, IsBadLine, entries_of}
@@ -31,16 +30,11 @@ pub record IsUntouched (play : Play) : Type 0 where
   pub written : play.sink_after.written ≡ play.sink.written
   pub stands : StandsFor play.stands []
 
--- the chain law over a script: for every chain that covers a hold, the text of its log is its opening and then the
--- contents of the chain's items after the hold's first position, in order, each once, none skipped, up to its position
-abbrev pub FollowsChains : List Event → Type 0
-FollowsChains events = (chain : Chain) → AreDistinct chain.root chain.links → CoversHistory chain (entries_of events) → All (Follows chain) (held (entries_of events))
-
 pub record IsDone (play : Play) (events : List Event) : Type 0 where
   pub script : IsOfFile play events
   pub written : play.sink_after.written ≡ grown play.sink.written (output events)
   pub stands : StandsFor play.stands (entries_of events)
-  pub follows : FollowsChains events
+  pub follows : FollowsChains (entries_of events)
 
 -- the sink failed: a first part of the output was written
 pub record IsCutOff (play : Play) (events : List Event) : Type 0 where
@@ -48,7 +42,7 @@ pub record IsCutOff (play : Play) (events : List Event) : Type 0 where
   pub fault : Rose play.sink.faults play.sink_after.faults
   pub written : (some : List ℕ) × IsPrefix some (output events) × (play.sink_after.written ≡ grown play.sink.written some)
   pub stands : StandsFor play.stands (entries_of events)
-  pub follows : FollowsChains events
+  pub follows : FollowsChains (entries_of events)
 
 -- memory was wanting: nothing was written, and the first events stand
 pub record IsStopped (play : Play) (events : List Event) (count : ℕ) : Type 0 where

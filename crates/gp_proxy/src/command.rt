@@ -7,6 +7,7 @@ use crate::replays::{load, played};
 use crate::status::Status;
 use crate::words::path_in;
 use gp_outside::{World, write_all};
+use gp_plain::chain_law;
 use gp_registry::Registry;
 use std::alloc::Global;
 
@@ -34,6 +35,7 @@ pub fn run<W: World>(
         Ok(text) => text,
         Err(status) => return status,
     };
+    chain_law();
     if write_all(world.out(), text.as_slice()) {
         Status::Done
     } else {

@@ -13,7 +13,7 @@ ghost use Rattle.gp_proxy.specs.Scripts.{entries_of, entry_of};
 
 use crate::log::Log;
 use crate::logs::{note, noted};
-use gp_plain::{Body, EndCause, Event, ItemId, Piece, Pieces};
+use gp_plain::{Body, EndCause, Event, ItemId, Piece, Pieces, position_law, told_law};
 use gp_registry::Registry;
 use gp_script::{add_end, add_hold, add_piece, add_reply};
 use std::alloc::{AllocError, Global};
@@ -34,6 +34,7 @@ fn play_one(
     ensures logs { (past : List Entry) → StandsFor registry.old past → logs.old.items ≡ map log_of (held past) → OnOk result (logs.new.items ≡ map log_of (held (past ++ entry_of event ∷ []))) }
     ensures part { (past : List Entry) → StandsFor registry.old past → StandsFor registry.new past ⊎ StandsFor registry.new (past ++ entry_of event ∷ []) }
 {
+    told_law();
     let noted = noted(alloc, registry, &event)?;
     let reply = match registry.step(0, event) {
         Ok(reply) => reply,
@@ -174,6 +175,7 @@ fn push_log(
 ) -> Result<(), AllocError>
     ensures { (past : List Entry) (h : Held) → StandsFor registry.now past → slice_get (held past) number ≡ Some h → log.now ≡ log_of h → OnOk result (string_bytes out.new ≡ string_bytes out.old ++ log_text number h) }
 {
+    position_law();
     let more = registry.pending(number)?;
     let ended = end_of(registry, number, log);
     push_whole(alloc, number, log, &more, ended, out)

@@ -11,7 +11,7 @@ use crate::play::play;
 use crate::script::{ScriptFault, read_script};
 use crate::status::Status;
 use gp_outside::{FileRead, Files, Out, write_all};
-use gp_plain::Event;
+use gp_plain::{Event, chain_law};
 use gp_registry::Registry;
 use std::alloc::Global;
 
@@ -77,6 +77,7 @@ pub fn replay<F: Files, O: Out>(
         Ok(text) => text,
         Err(status) => return status,
     };
+    chain_law();
     if write_all(out, text.as_slice()) {
         Status::Done
     } else {

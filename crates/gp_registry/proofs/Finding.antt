@@ -45,6 +45,12 @@ foreign_says window who number next place reply change hs s h view p is other =
       leaves = subst (λ (t : Standing). t ≡ record t { kept = replaced who number change t.kept }) view left;
     }
 
+-- the answer that the owner of a kept hold is due
+pub own_answers : (window : List Item) (who number next place : ℕ) (reply : Kept → Reply) (hs : List Hold) (s : Standing) (h : Hold) → standing_now window next hs ≡ s
+    → IsPlaceOf (map number_of hs) number place → h ≡ get_or hs place h → h.owner ≡ who → reply (kept_hold h) ≡ refused_or_kept who number (found number s.kept) reply
+own_answers window who number next place reply hs s h view p is own =
+    ap (λ b. cond b (reply (kept_hold h)) (Foreign h.owner)) (sym (eq-eqb h.owner who own)) ∙ ap (λ o. refused_or_kept who number o reply) (found_place window number next place hs s h view p is)
+
 pub own_says : (window : List Item) (who number next place : ℕ) (reply : Kept → Reply) (change : Kept → List Kept) (hs after : List Hold) (s : Standing) (h : Hold) → standing_now window next hs ≡ s
     → IsPlaceOf (map number_of hs) number place → h ≡ get_or hs place h → h.owner ≡ who → map kept_hold after ≡ instead place change (map kept_hold hs)
     → Says who number reply change s (reply (kept_hold h)) (standing_now window next after)
@@ -53,6 +59,6 @@ own_says window who number next place reply change hs after s h view p is own do
     let at : ((get_or hs place h).owner == who) ≡ true = ap (λ (x : Hold). x.owner == who) (sym is) ∙ owner in
     let rest = replaced_own who number place change hs h (within_of hs number place p) p.here p.before at in
     record {
-      answers = ap (λ b. cond b (reply (kept_hold h)) (Foreign h.owner)) (sym owner) ∙ ap (λ o. refused_or_kept who number o reply) (found_place window number next place hs s h view p is);
+      answers = own_answers window who number next place reply hs s h view p is own;
       leaves = subst (λ (t : Standing). standing_now window next after ≡ record t { kept = replaced who number change t.kept }) view (ap (λ ks. let t : Standing = record { window = window; next = next; kept = ks } in t) (done ∙ sym rest));
     }

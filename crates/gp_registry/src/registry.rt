@@ -3,6 +3,7 @@ ghost use Rattle.gp_plain.specs.Fit.{fits, fits_spec, is_built_spec};
 ghost use Rattle.gp_plain.specs.History.{cause_at, held, kept_count, pending_at, position_at, reply};
 ghost use Rattle.gp_plain.specs.Standing.{StandsFor};
 ghost use Rattle.gp_plain.specs.Pieces.{id_or};
+ghost use Rattle.gp_plain.specs.Refusals.{NeedsNoMemory, refuses};
 ghost use Rattle.gp_plain.specs.declared.event.Entry.{Entry};
 ghost use Rattle.gp_plain.specs.declared.reply.Reply.TheVariants.{Repeat};
 ghost use Rattle.gp_plain.specs.Follow.{is_repeat};
@@ -119,6 +120,7 @@ impl Registry {
         requires room { self.old.next < 2 ^ 62 }
         ensures ok { IfOk result (λ r. (r ≡ answered self.old who (Event.Attach spec)) × (self.new ≡ stepped self.old who (Event.Attach spec))) }
         ensures err { IfErr result (λ e. (e.0 ≡ spec) × (self.new ≡ self.old)) }
+        ensures due { OnErr result (refuses (answered self.old who (Event.Attach spec)) ≡ false) }
     {
         if self.holds.len() >= PLACES {
             return Ok(Reply::Full(4096));
@@ -140,6 +142,7 @@ impl Registry {
     fn publish(&mut self, item: Item) -> Result<Reply, (Item, AllocError)>
         ensures ok { (who : ℕ) → IfOk result (λ r. (r ≡ answered self.old who (Event.Publish item)) × (self.new ≡ stepped self.old who (Event.Publish item))) }
         ensures err { IfErr result (λ e. (e.0 ≡ item) × (self.new ≡ self.old)) }
+        ensures due { (who : ℕ) → OnErr result (refuses (answered self.old who (Event.Publish item)) ≡ false) }
     {
         if self.window.repeats(&item) {
             return Ok(repeated(item));
@@ -154,6 +157,7 @@ impl Registry {
     fn take(&mut self, who: u64, hold: u64, now: u64) -> Result<Reply, AllocError>
         ensures ok { IfOk result (λ r. (r ≡ answered self.old who (Event.Take hold now)) × (self.new ≡ stepped self.old who (Event.Take hold now))) }
         ensures err { OnErr result (self.new ≡ self.old) }
+        ensures due { OnErr result (refuses (answered self.old who (Event.Take hold now)) ≡ false) }
     {
         let Some(place) = place_of(self.holds.as_slice(), hold) else {
             return Ok(Reply::Unknown(hold));
@@ -185,7 +189,8 @@ impl Registry {
         requires room { self.old.next < 2 ^ 62 }
         ensures ok { IfOk result (λ r. (r ≡ answered self.old who event) × (self.new ≡ stepped self.old who event)) }
         ensures err { IfErr result (λ e. (e.0 ≡ event) × (self.new ≡ self.old)) }
-        ensures detach { (hold : ℕ) → event ≡ Event.Detach hold → IsOk result }
+        ensures due { OnErr result (refuses (answered self.old who event) ≡ false) }
+        ensures free { NeedsNoMemory event → IsOk result }
     {
         match event {
             Event::Attach { spec } => match self.attach(who, spec) {
@@ -207,15 +212,16 @@ impl Registry {
 
     /// Does what the event asks, and answers it. `who` is the number of the one who asks.
     ///
-    /// An error comes from want of memory alone: it changes nothing, and hands the event back. A Detach takes no
-    /// memory, and is always answered.
+    /// An error comes from want of memory alone, and never where the event is to be refused: it changes nothing, and
+    /// hands the event back. A refusal takes no memory, and neither does a Detach, which is always answered.
     pub fn step(&mut self, who: u64, event: Event) -> Result<Reply, (Event, AllocError)>
         requires fits { fits event ≡ true }
         requires room { self.old.next < 2 ^ 62 }
         ensures number { self.new.next ≤ self.old.next + 1 }
         ensures reply { (past : List Entry) → StandsFor self.old past → IfOk result (λ r. (r ≡ reply past who event) × StandsFor self.new (past ++ (record { who = who; event = event }) ∷ [])) }
         ensures err { IfErr result (λ e. (e.0 ≡ event) × (self.new ≡ self.old)) }
-        ensures detach { (hold : ℕ) → event ≡ Event.Detach hold → IsOk result }
+        ensures due { (past : List Entry) → StandsFor self.old past → OnErr result (refuses (reply past who event) ≡ false) }
+        ensures free { NeedsNoMemory event → IsOk result }
     {
         self.step_now(who, event)
     }

@@ -6,12 +6,11 @@ use Rattle.std.specs.Cmp.Lexicographic.{same_text}
 use Rattle.std.proofs.Math.Bool.{and-true, and-false}
 use Rattle.std.proofs.lemmas.List.Folds.{list_any_none}
 use Rattle.gp_plain.specs.declared.item.Item.{Item}
-use Rattle.gp_plain.specs.Items.{is_chained, is_id, is_same, is_on}
+use Rattle.gp_plain.specs.Items.{is_id, is_same, is_on}
 use Rattle.gp_plain.specs.Names.{same_id}
 use Rattle.gp_plain.specs.Follow.{is_repeat}
-use Rattle.gp_plain.specs.Tails.{on_channel, is_after, is_tip, ahead}
 use Rattle.gp_plain.proofs.ChainLaw.{same_ids}
-use Rattle.gp_window.specs.Searches.{goes_on_from, has_id, is_tip_of}
+use Rattle.gp_window.specs.Searches.{has_id}
 
 absurd_true : {A : Type 0} → true ≡ false → A
 absurd_true e = cc
@@ -19,51 +18,6 @@ absurd_true e = cc
 any_same : (q p : Item → Bool) (xs : List Item) → ((x : Item) → q x ≡ p x) → list_any q xs ≡ list_any p xs
 any_same q p [] e = refl
 any_same q p (x ∷ xs) e = ap (λ b. b || list_any q xs) (e x) ∙ ap (λ b. p x || b) (any_same q p xs e)
-
-filter_by : (q p : Item → Bool) (x : Item) (xs : List Item) (b : Bool) → list_any q (cond b (x ∷ filter p xs) (filter p xs)) ≡ ((b && q x) || list_any q (filter p xs))
-filter_by q p x xs true = refl
-filter_by q p x xs false = refl
-
-any_filter : (q p : Item → Bool) (xs : List Item) → list_any q (filter p xs) ≡ list_any (λ (x : Item). p x && q x) xs
-any_filter q p [] = refl
-any_filter q p (x ∷ xs) = filter_by q p x xs (p x) ∙ ap (λ b. (p x && q x) || b) (any_filter q p xs)
-
-goes_by : (id prev : Option (List ℕ)) (own : List ℕ) (on : Bool) → (on && ((is_some id && is_some prev) && is_id prev own)) ≡ ((is_some id && is_id prev own) && on)
-goes_by None None own true = refl
-goes_by None None own false = refl
-goes_by None (Some p) own true = refl
-goes_by None (Some p) own false = refl
-goes_by (Some i) None own true = refl
-goes_by (Some i) None own false = refl
-goes_by (Some i) (Some p) own true = sym (and-true (is_id (Some p) own))
-goes_by (Some i) (Some p) own false = sym (and-false (is_id (Some p) own))
-
-goes_is : (channel own : List ℕ) (items : List Item) → list_any (λ (other : Item). is_chained other && is_after (Some own) other) (on_channel channel items) ≡ list_any (goes_on_from channel own) items
-goes_is channel own items =
-    any_filter (λ (other : Item). is_chained other && is_after (Some own) other) (is_on channel) items
-    ∙ any_same (λ (x : Item). is_on channel x && (is_chained x && is_after (Some own) x)) (goes_on_from channel own) items (λ x. goes_by x.id x.prev own (is_on channel x))
-
-none_after : (items : List Item) (channel : List ℕ) → list_any (λ (other : Item). is_chained other && is_after None other) (on_channel channel items) ≡ false
-none_after items channel = list_any_none (λ (other : Item). is_chained other && is_after None other) (on_channel channel items) (λ i x h. and-false (is_chained (get_or (on_channel channel items) i x)))
-
-regroup : (a b c d : Bool) → (a && (b && c && d)) ≡ ((a && b && c) && d)
-regroup true true true d = refl
-regroup true true false d = refl
-regroup true false c d = refl
-regroup false b c d = refl
-
-tip_by : (channel id : List ℕ) (items : List Item) (own : Option (List ℕ)) (chained on : Bool)
-    → (on && (chained && not (is_id own id) && not (list_any (λ (other : Item). is_chained other && is_after own other) (on_channel channel items))))
-    ≡ ((on && chained && not (is_id own id)) && not (option_map_or (λ (o : List ℕ). list_any (goes_on_from channel o) items) own false))
-tip_by channel id items (Some own) chained on =
-    ap (λ b. on && (chained && not (is_id (Some own) id) && not b)) (goes_is channel own items) ∙ regroup on chained (not (is_id (Some own) id)) (not (list_any (goes_on_from channel own) items))
-tip_by channel id items None chained on = ap (λ b. on && (chained && true && not b)) (none_after items channel) ∙ regroup on chained true true
-
--- something is ahead where an item is a tip
-pub ahead_is : (channel id : List ℕ) (items : List Item) → ahead id (on_channel channel items) ≡ list_any (is_tip_of items channel id) items
-ahead_is channel id items =
-    any_filter (is_tip id (on_channel channel items)) (is_on channel) items
-    ∙ any_same (λ (x : Item). is_on channel x && is_tip id (on_channel channel items) x) (is_tip_of items channel id) items (λ x. tip_by channel id items x.id (is_chained x) (is_on channel x))
 
 -- repeats
 

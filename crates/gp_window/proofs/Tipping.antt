@@ -9,11 +9,12 @@ use Rattle.std.proofs.lemmas.List.{get_or-set_other}
 use Rattle.std.proofs.lemmas.List.Folds.{list_any-append}
 use Rattle.std.proofs.lemmas.Option.{slice_get_within, slice_get-get_or}
 use Rattle.gp_plain.specs.declared.item.Item.{Item}
-use Rattle.gp_plain.specs.Items.{is_chained, is_id, is_on}
+use Rattle.gp_plain.specs.Items.{is_chained, is_id, is_on, goes_on_from}
 use Rattle.gp_plain.specs.Names.{same_id}
 use Rattle.gp_plain.proofs.ChainLaw.{same_ids}
 use Rattle.gp_window.specs.Buckets.{channel_bucket}
-use Rattle.gp_window.specs.Searches.{goes_on_from, has_id, is_at, is_tip_of}
+use Rattle.gp_window.specs.Searches.{has_id, is_at}
+use Rattle.gp_plain.specs.Tails.{is_tip_of}
 use Rattle.gp_window.specs.Tips.{IsMarked, IsMarkedOf, goes_from, is_open}
 use Rattle.gp_window.specs.Marks.{count_of}
 use Rattle.gp_window.proofs.Marking.{no_count, only_one}

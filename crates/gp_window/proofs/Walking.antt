@@ -7,12 +7,12 @@ use Rattle.std.proofs.lemmas.Bool.{cases_lt, cases_eq}
 use Rattle.std.proofs.lemmas.List.{get_or-set_same, get_or-set_other}
 use Rattle.std.proofs.lemmas.List.Folds.{list_any_none}
 use Rattle.gp_plain.specs.declared.item.Item.{Item}
-use Rattle.gp_plain.specs.Items.{is_id, comes_after, is_on}
+use Rattle.gp_plain.specs.Items.{is_id, comes_after, is_on, goes_on_from}
 use Rattle.gp_plain.specs.Names.{same_id}
 use Rattle.gp_plain.specs.Tails.{is_next_at, IsNextAfter, IsNoNextAfter}
 use Rattle.gp_window.specs.Buckets.{bucket, bucket_or, id_bucket, prev_bucket}
 use Rattle.gp_window.specs.Chains.{IsNewest, HasNone}
-use Rattle.gp_window.specs.Searches.{goes_on_from, has_id, is_at, is_next_of}
+use Rattle.gp_window.specs.Searches.{has_id, is_at, is_next_of}
 
 -- all places from here on were looked at
 abbrev pub behind : Option ℕ → ℕ
@@ -194,26 +194,22 @@ older_of chain keys b place next e e' m =
 
 pub next_in : (channel id used : List ℕ) (items : List Item) → IsIn (is_next_at items channel id used) (map prev_bucket items) (bucket channel id)
 next_in channel id used items =
-    let f = is_in prev_bucket (λ (item : Item). is_on channel item && comes_after item id) items (bucket channel id)
-    (λ x e. same_bucket x.prev x.channel channel id (and_left (is_on channel x) (comes_after x id) e) (and_right (is_some x.id) (is_id x.prev id) (and_right (is_on channel x) (comes_after x id) e))) in record {
-      within = λ j e. f.within j (and_right (not (list_any (λ (other : ℕ). eqb other j) used)) (is_at (λ (item : Item). is_on channel item && comes_after item id) items j) e);
-      here = λ j e. f.here j (and_right (not (list_any (λ (other : ℕ). eqb other j) used)) (is_at (λ (item : Item). is_on channel item && comes_after item id) items j) e);
+    let f = goes_on_in channel id items in
+    record {
+      within = λ j e. f.within j (and_right (not (list_any (λ (other : ℕ). eqb other j) used)) (is_at (goes_on_from channel id) items j) e);
+      here = λ j e. f.here j (and_right (not (list_any (λ (other : ℕ). eqb other j) used)) (is_at (goes_on_from channel id) items j) e);
     }
 
-turned : (a b u : Bool) → ((a && b) && not u) ≡ (not u && (b && a))
-turned true true true = refl
-turned true true false = refl
-turned true false true = refl
-turned true false false = refl
-turned false true true = refl
-turned false true false = refl
-turned false false true = refl
-turned false false false = refl
+turned : (a u : Bool) → (a && not u) ≡ (not u && a)
+turned true true = refl
+turned true false = refl
+turned false true = refl
+turned false false = refl
 
 pub next_there : (channel id used : List ℕ) (items : List Item) (place : ℕ) (item : Item) → slice_get items place ≡ Some item → is_next_of channel id used place item ≡ is_next_at items channel id used place
 next_there channel id used items place item e =
-    turned (comes_after item id) (is_on channel item) (list_any (λ (other : ℕ). eqb other place) used)
-    ∙ ap (λ b. not (list_any (λ (other : ℕ). eqb other place) used) && b) (sym (at_item (λ (x : Item). is_on channel x && comes_after x id) items place item e))
+    turned (goes_on_from channel id item) (list_any (λ (other : ℕ). eqb other place) used)
+    ∙ ap (λ b. not (list_any (λ (other : ℕ). eqb other place) used) && b) (sym (at_item (goes_on_from channel id) items place item e))
 
 -- a walk stands at an item
 pub not_there : (key : Item → ℕ) (items : List Item) (place : ℕ) → place < length (map key items) → slice_get items place ≡ None → ⊥

@@ -2,28 +2,12 @@
 use Rattle.std.specs.Prelude.{ℕ, ◌≡◌, Bool, true, false, eqb, ◌&&◌, not, List, slice_get, Option, Some, None}
 use Rattle.std.specs.List.{list_any}
 use Rattle.std.specs.Option.{option_map_or}
-use Rattle.gp_plain.specs.Items.{is_chained, is_id, comes_after, is_on}
+use Rattle.gp_plain.specs.Items.{is_id, is_on, goes_on_from}
 use Rattle.gp_plain.specs.declared.item.Item.{Item}
 
 -- an item of the channel that has the id
 abbrev pub has_id : List ℕ → List ℕ → Item → Bool
 has_id channel id item = is_on channel item && is_id item.id id
-
--- a chained item of the channel whose previous id is this one
-abbrev pub goes_on_from : List ℕ → List ℕ → Item → Bool
-goes_on_from channel id item = comes_after item id && is_on channel item
-
--- a chained item of the channel with another id
-abbrev pub is_further : List ℕ → List ℕ → Item → Bool
-is_further channel id item = is_on channel item && is_chained item && not (is_id item.id id)
-
--- some item goes on from the id that this one has
-abbrev pub is_continued : List Item → List ℕ → Item → Bool
-is_continued items channel item = option_map_or (λ (own : List ℕ). list_any (goes_on_from channel own) items) item.id false
-
--- one from which no item goes on
-abbrev pub is_tip_of : List Item → List ℕ → List ℕ → Item → Bool
-is_tip_of items channel id item = is_further channel id item && not (is_continued items channel item)
 
 -- one that goes on from an id, and whose place isn't used
 abbrev pub is_next_of : List ℕ → List ℕ → List ℕ → ℕ → Item → Bool

@@ -1,9 +1,10 @@
 -- The items from which nothing goes on.
 use Rattle.std.specs.Prelude.{ℕ, ◌≡◌, Bool, true, ◌&&◌, not, cond, List, length, get_or, slice_get, Option, Some, None, is_some}
 use Rattle.gp_plain.specs.Items.{is_chained}
+use Rattle.gp_plain.specs.Tails.{is_continued}
 use Rattle.gp_plain.specs.declared.item.Item.{Item}
 use Rattle.gp_window.specs.Buckets.{channel_bucket}
-use Rattle.gp_window.specs.Searches.{has_id, is_at, is_continued}
+use Rattle.gp_window.specs.Searches.{has_id, is_at}
 
 -- a chained item, from whose id no item of the list goes on
 abbrev pub is_open : List Item → Item → Bool

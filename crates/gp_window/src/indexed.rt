@@ -3,7 +3,8 @@ ghost use Rattle.std.specs.Prelude.{◌≡◌, ◌<◌, ◌≤◌, ◌++◌, ◌
 ghost use Rattle.std.specs.List.{list_any};
 ghost use Rattle.gp_plain.specs.Tails.{IsNextAfter, IsNoNextAfter};
 ghost use Rattle.gp_window.specs.Buckets.{channel_bucket};
-ghost use Rattle.gp_window.specs.Searches.{IsFound, goes_on_from, has_id, is_at, is_next_of};
+ghost use Rattle.gp_plain.specs.Items.{goes_on_from};
+ghost use Rattle.gp_window.specs.Searches.{IsFound, has_id, is_at, is_next_of};
 
 use crate::bucket::{bucket, bucket_or, channel_bucket};
 use crate::chains::Chains;

@@ -2,9 +2,9 @@
 ghost use Rattle.std.specs.Prelude.{◌≡◌, ◌<◌, ◌++◌, ◌∷◌, ℕ, [], IfOk, MatchOption, drop, length, option_map, slice_get, true};
 ghost use Rattle.std.specs.List.{list_any};
 ghost use Rattle.gp_plain.specs.Follow.{last_items};
-ghost use Rattle.gp_plain.specs.Tails.{IsNextAfter, IsNoNextAfter, ahead, on_channel};
+ghost use Rattle.gp_plain.specs.Tails.{IsNextAfter, IsNoNextAfter, ahead, is_tip_of};
 ghost use Rattle.gp_window.specs.Buckets.{channel_bucket};
-ghost use Rattle.gp_window.specs.Searches.{has_id, is_at, is_tip_of};
+ghost use Rattle.gp_window.specs.Searches.{has_id, is_at};
 ghost use Rattle.gp_window.specs.Tips.{IsMarked, IsMarkedOf, goes_from, is_open};
 
 use crate::bucket::{NO_BUCKET, channel_bucket};
@@ -199,7 +199,7 @@ impl Ring {
     /// Whether an item of the channel shows that there is more than an id. The items are looked through only where the marks
     /// don't tell.
     pub fn ahead(&self, channel: &Name, id: &ItemId) -> bool
-        ensures { result ≡ ahead id.now (on_channel channel.now self.now) }
+        ensures { result ≡ ahead channel.now id.now self.now }
     {
         let bucket = channel_bucket(channel);
         let marked = self.tips.count(bucket);

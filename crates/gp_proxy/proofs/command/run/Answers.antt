@@ -47,7 +47,7 @@ returns-then-write_all g c =
     (ap (λ f. g.W.Files.Files.faults f) (sym (g.met.W.World.files_back world files) ∙ sym (g.met.W.World.out_leaves_files between out)))
     (ap (λ o. g.W.Out.Out.tells o) (c.out.ensures.value ∙ g.met.W.World.files_leave_out world files))
     (ap (λ o. g.W.Out.Out.tells o) (sym (g.met.W.World.out_back between out)))
-    (done (play_at (g.W.Files.Files.content c.files.result.now c.in-Ok.path.now) (g.W.Files.Files.faults c.files.result.now) (g.W.Files.Files.faults files) (g.W.Out.Out.tells c.out.result.now) (g.W.Out.Out.tells out) c.played.new.registry) c.in-Ok-load.events.items c.as_slice.result.now c.in-Ok-load.ensures.loaded (c.as_slice.ensures.value ∙ c.in-Ok-played.ensures.text) c.if-write_all.ensures c.in-Ok-played.ensures.stands)
+    (done c.chain_law.ensures (play_at (g.W.Files.Files.content c.files.result.now c.in-Ok.path.now) (g.W.Files.Files.faults c.files.result.now) (g.W.Files.Files.faults files) (g.W.Out.Out.tells c.out.result.now) (g.W.Out.Out.tells out) c.played.new.registry) c.in-Ok-load.events.items c.as_slice.result.now c.in-Ok-load.ensures.loaded (c.as_slice.ensures.value ∙ c.in-Ok-played.ensures.text) c.if-write_all.ensures c.in-Ok-played.ensures.stands)
 
 pub returns : goal.returns
 returns g c =
@@ -62,4 +62,4 @@ returns g c =
     (ap (λ f. g.W.Files.Files.faults f) (sym (g.met.W.World.files_back world files) ∙ sym (g.met.W.World.out_leaves_files between out)))
     (ap (λ o. g.W.Out.Out.tells o) (c.out.ensures.value ∙ g.met.W.World.files_leave_out world files))
     (ap (λ o. g.W.Out.Out.tells o) (sym (g.met.W.World.out_back between out)))
-    (cut_off (play_at (g.W.Files.Files.content c.files.result.now c.in-Ok.path.now) (g.W.Files.Files.faults c.files.result.now) (g.W.Files.Files.faults files) (g.W.Out.Out.tells c.out.result.now) (g.W.Out.Out.tells out) c.played.new.registry) c.in-Ok-load.events.items c.as_slice.result.now c.in-Ok-load.ensures.loaded (c.as_slice.ensures.value ∙ c.in-Ok-played.ensures.text) c.if-write_all.ensures c.in-Ok-played.ensures.stands)
+    (cut_off c.chain_law.ensures (play_at (g.W.Files.Files.content c.files.result.now c.in-Ok.path.now) (g.W.Files.Files.faults c.files.result.now) (g.W.Files.Files.faults files) (g.W.Out.Out.tells c.out.result.now) (g.W.Out.Out.tells out) c.played.new.registry) c.in-Ok-load.events.items c.as_slice.result.now c.in-Ok-load.ensures.loaded (c.as_slice.ensures.value ∙ c.in-Ok-played.ensures.text) c.if-write_all.ensures c.in-Ok-played.ensures.stands)

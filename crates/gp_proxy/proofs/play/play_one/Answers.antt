@@ -8,7 +8,7 @@ use Rattle.gp_proxy.proofs.play.play_one.Goals as goal
 
 pub returns-clause-logs : goal.returns-clause-logs
 returns-clause-logs c = λ past at are.
-    on_ok_weaker c.note.result (λ now. logs_after past c.args.event c.args.logs.now.items c.note.new.logs.items c.in_ok-noted.noted c.in-Ok.reply are (c.in_ok-noted.ensures past at) (c.in-Ok.ensures.reply past at).0 now) c.note.ensures
+    on_ok_weaker c.note.result (λ now. logs_after c.told_law.ensures past c.args.event c.args.logs.now.items c.note.new.logs.items c.in_ok-noted.noted c.in-Ok.reply are (c.in_ok-noted.ensures past at) (c.in-Ok.ensures.reply past at).0 now) c.note.ensures
 
 pub returns-clause-text : goal.returns-clause-text
 returns-clause-text c = λ past at.

@@ -5,7 +5,6 @@ use Rattle.gp_plain.specs.History.{held, pending_at, cause_at}
 use Rattle.gp_proxy.specs.declared.log.Log.{Log}
 use Rattle.gp_proxy.specs.Logs.{whole_text, or_end}
 use Rattle.gp_proxy.proofs.Noting.{log_is}
-use Rattle.gp_proxy.proofs.Plays.{position_is}
 use Rattle.gp_proxy.proofs.play.push_log.Goals as goal
 
 pub returns : goal.returns
@@ -19,5 +18,5 @@ returns c = λ past h at here is.
     ∙ ap (λ (ps : List Piece). out ++ whole_text number c.args.log.now ps c.end_of-ended.result) (c.in_ok-more.ensures past at)
     ∙ ap (λ end. out ++ whole_text number c.args.log.now (pending_at holds number) end) (c.end_of-ended.ensures past at)
     ∙ ap (λ (l : Log). out ++ whole_text number l (pending_at holds number) (or_end l.ended (cause_at holds number))) is
-    ∙ ap (λ t. out ++ t) (log_is number h holds here (position_is past number h here)))
+    ∙ ap (λ t. out ++ t) (log_is number h holds here (c.position_law.ensures past number h here)))
     c.push_whole.ensures

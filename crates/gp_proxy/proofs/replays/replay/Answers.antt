@@ -12,8 +12,8 @@ returns-in-Err-played g c =
 
 pub returns-then-write_all : goal.returns-then-write_all
 returns-then-write_all g c =
-    done _ c.in-Ok.events.items c.as_slice.result.now c.in-Ok.ensures.loaded (c.as_slice.ensures.value ∙ c.in-Ok-played.ensures.text) c.if-write_all.ensures c.in-Ok-played.ensures.stands
+    done c.chain_law.ensures _ c.in-Ok.events.items c.as_slice.result.now c.in-Ok.ensures.loaded (c.as_slice.ensures.value ∙ c.in-Ok-played.ensures.text) c.if-write_all.ensures c.in-Ok-played.ensures.stands
 
 pub returns : goal.returns
 returns g c =
-    cut_off _ c.in-Ok.events.items c.as_slice.result.now c.in-Ok.ensures.loaded (c.as_slice.ensures.value ∙ c.in-Ok-played.ensures.text) c.if-write_all.ensures c.in-Ok-played.ensures.stands
+    cut_off c.chain_law.ensures _ c.in-Ok.events.items c.as_slice.result.now c.in-Ok.ensures.loaded (c.as_slice.ensures.value ∙ c.in-Ok-played.ensures.text) c.if-write_all.ensures c.in-Ok-played.ensures.stands

@@ -1,5 +1,5 @@
 use Rattle.std.proofs.Common.{◌-◌, sym, ◌∙◌, arith}
-use Rattle.gp_window.specs.Searches.{is_tip_of}
+use Rattle.gp_plain.specs.Tails.{is_tip_of}
 use Rattle.gp_window.proofs.Walking.{none_at_all, some_at}
 use Rattle.gp_window.proofs.ring.has_tip.Goals as goal
 

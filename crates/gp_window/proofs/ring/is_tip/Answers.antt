@@ -1,5 +1,5 @@
 use Rattle.std.proofs.Common.{sym, ◌∙◌}
-use Rattle.gp_window.specs.Searches.{is_tip_of}
+use Rattle.gp_plain.specs.Tails.{is_tip_of}
 use Rattle.gp_window.proofs.Tipping.{not_marked}
 use Rattle.gp_window.proofs.Walking.{at_item}
 use Rattle.gp_window.proofs.ring.is_tip.Goals as goal

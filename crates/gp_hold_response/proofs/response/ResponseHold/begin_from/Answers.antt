@@ -11,7 +11,7 @@ use Rattle.gp_hold_response.proofs.response.ResponseHold.begin_from.Goals as goa
 pub returns : goal.returns
 returns g c =
     let w = g.I.Tail.items c.args.window.now in
-    let fs = followers ResponseKind (c.args.channel.now ∷ []) c.args.prev.now w in
+    let fs = followers ResponseKind c.args.channel.now c.args.prev.now w in
     let p = c.new-pending.result.items in
     let run = c.follow.new.self in
     let is : run ≡ with_pieces [] no_growth fs = c.in_ok-follow.ensures.0 ∙ ap (λ b. with_pieces p b fs) c.behind-run.ensures.0 ∙ ap (λ q. with_pieces q no_growth fs) c.new-pending.ensures in

@@ -16,7 +16,7 @@ returns-then-not-comes_next g c =
 pub returns : goal.returns
 returns g c =
     let w = g.I.Tail.items c.args.window.now in
-    let ps = piece_by ResponseKind c.args.item.now ∷ cond (ends_by ResponseKind c.args.item.now) [] (option_map_or (λ id. followers ResponseKind (c.args.channel.now ∷ []) id w) c.args.item.now.id []) in
+    let ps = piece_by ResponseKind c.args.item.now ∷ cond (ends_by ResponseKind c.args.item.now) [] (option_map_or (λ id. followers ResponseKind c.args.channel.now id w) c.args.item.now.id []) in
     if_ok c.into_plan.result (λ plan made.
     from_planned c.args.self.now c.args.channel.now c.args.position.now c.args.item.now w c.in_ok-run.run' plan c.requires.live c.requires.from.0 c.requires.from.1 c.requires.from.2
     (sym c.is_on.ensures ∙ c.if-not-is_on.false) (sym c.leaves_gap.ensures ∙ c.if-leaves_gap.false) (sym c.comes_next.ensures ∙ c.if-not-comes_next.false)

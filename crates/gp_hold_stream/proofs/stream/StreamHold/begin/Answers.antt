@@ -11,7 +11,7 @@ use Rattle.gp_hold_stream.proofs.stream.StreamHold.begin.Goals as goal
 pub returns : goal.returns
 returns g c =
     let w = g.I.Tail.items c.args.window.now in
-    let fs = followers StreamKind (c.args.channel.now ∷ []) c.args.prev.now w in
+    let fs = followers StreamKind c.args.channel.now c.args.prev.now w in
     let p = c.new-pending.result.items in
     let run = c.follow.new.self in
     let is : run ≡ with_pieces [] no_growth (Opening c.args.opening.now ∷ fs) =

@@ -9,7 +9,7 @@ use Rattle.gp_plain.proofs.run.Run.follow.Goals as goal
 pub loop-at-init : goal.loop-at-init
 loop-at-init g c = record {
   within = c.requires;
-  rest = ap (λ xs. with_pieces c.args.to.now.items c.args.self.now (map (piece_by c.args.kind) (follow (c.args.channel.now ∷ []) (ends_by c.args.kind) c.args.from.now xs)))
+  rest = ap (λ xs. with_pieces c.args.to.now.items c.args.self.now (map (piece_by c.args.kind) (follow c.args.channel.now (ends_by c.args.kind) c.args.from.now xs)))
       (ap (λ us. unused 0 us (g.I.Tail.items c.args.window.now)) c.new-used.ensures ∙ unused_all 0 (g.I.Tail.items c.args.window.now));
 }
 
@@ -24,7 +24,7 @@ loop-at-preserved g c = record {
 pub returns : goal.returns
 returns g c = elim c.loop-at-test.branch [
   | else-loop-at-test w ↦ (
-    sym (all_after_end c.args.to.now.items c.loop-at.self (map (piece_by c.args.kind) (follow (c.args.channel.now ∷ []) (ends_by c.args.kind) c.loop-at.at.now (unused 0 c.loop-at.used (g.I.Tail.items c.args.window.now))))
+    sym (all_after_end c.args.to.now.items c.loop-at.self (map (piece_by c.args.kind) (follow c.args.channel.now (ends_by c.args.kind) c.loop-at.at.now (unused 0 c.loop-at.used (g.I.Tail.items c.args.window.now))))
         (ap is_none (sym c.ended.ensures) ∙ some_not_none c.ended.result w.loop-at-test.ensures)) ∙ c.loop-at.invariant.rest,
     c.loop-at.invariant.within,
   )

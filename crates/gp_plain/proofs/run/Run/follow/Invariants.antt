@@ -8,8 +8,8 @@ use Rattle.gp_plain.proofs.run.Run.follow.Given as goal
 abbrev pub invariant-loop-at : goal.invariant-loop-at
 invariant-loop-at g l = record {
   within : IsWithin l.to.items l.self.pieces;
-  rest : with_pieces l.to.items l.self (map (piece_by l.kind) (follow (l.channel ∷ []) (ends_by l.kind) l.at (unused 0 l.used (g.I.Tail.items l.window))))
-      ≡ with_pieces l.to.items l.initial.self (followers l.kind (l.channel ∷ []) l.from (g.I.Tail.items l.window));
+  rest : with_pieces l.to.items l.self (map (piece_by l.kind) (follow l.channel (ends_by l.kind) l.at (unused 0 l.used (g.I.Tail.items l.window))))
+      ≡ with_pieces l.to.items l.initial.self (followers l.kind l.channel l.from (g.I.Tail.items l.window));
 }
 
 abbrev pub decreases-loop-at : goal.decreases-loop-at

@@ -1,5 +1,6 @@
-use Rattle.std.proofs.Common.{◌≡◌, ℕ, ◌≤◌, ◌+◌, ◌∙◌, sym, ap, arith, Result, Ok, Err}
-use Rattle.std.specs.Result.{IfOk, IfErr}
+use Rattle.std.proofs.Common.{◌≡◌, ℕ, ◌≤◌, ◌+◌, ◌∙◌, false, sym, ap, subst, arith, Result, Ok, Err}
+use Rattle.std.specs.Result.{IfOk, IfErr, OnErr}
+use Rattle.gp_plain.specs.Refusals.{refuses}
 use Rattle.gp_plain.specs.Standing.{Standing}
 use Rattle.gp_plain.specs.declared.event.Event.{Event}
 use Rattle.gp_plain.specs.declared.reply.Reply.{Reply}
@@ -18,3 +19,7 @@ number_by (Err e) old new who event is left = omega (arith, ap (λ (s : Standing
 
 pub returns-clause-number : goal.returns-clause-number
 returns-clause-number c = number_by c.step_now.result c.args.self.now c.step_now.new.self c.args.who c.args.event c.step_now.ensures.ok c.step_now.ensures.err
+
+pub returns-clause-due : goal.returns-clause-due
+returns-clause-due c = λ past at.
+    subst (λ (r : Reply). OnErr c.step_now.result (refuses r ≡ false)) (sym (reply_is past c.args.self.now c.args.who c.args.event at)) c.step_now.ensures.due

@@ -1,6 +1,7 @@
 use Rattle.std.proofs.Common.{◌≡◌, map, slice_get, Some, sym, ap, ◌∙◌, arith}
 use Rattle.gp_window.specs.Buckets.{bucket, prev_bucket}
-use Rattle.gp_window.specs.Searches.{goes_on_from, is_at}
+use Rattle.gp_plain.specs.Items.{goes_on_from}
+use Rattle.gp_window.specs.Searches.{is_at}
 use Rattle.gp_window.proofs.Walking.{at_item, begun, behind, begun_none, gone_on, goes_on_in, newest_of, none_at_all, none_on, not_there, older_of, some_at}
 use Rattle.gp_window.proofs.indexed.Indexed.goes_on.Goals as goal
 

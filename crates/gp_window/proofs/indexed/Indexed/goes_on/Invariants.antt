@@ -1,6 +1,7 @@
 use Rattle.std.proofs.Common.{◌≡◌, ℕ, ◌≤◌, false, map}
 use Rattle.gp_window.specs.Buckets.{bucket, prev_bucket}
-use Rattle.gp_window.specs.Searches.{goes_on_from, is_at}
+use Rattle.gp_plain.specs.Items.{goes_on_from}
+use Rattle.gp_window.specs.Searches.{is_at}
 use Rattle.gp_window.proofs.Walking.{IsAlong, behind}
 use Rattle.gp_window.proofs.indexed.Indexed.goes_on.Given as goal
 
