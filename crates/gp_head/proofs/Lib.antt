@@ -5,5 +5,6 @@ pub mod ByteClasses
 pub mod HeadLemmas
 pub mod SettledLemmas
 pub mod TargetLemmas
+pub mod PathTargets
 pub mod RoundTrip
 pub mod OneHead

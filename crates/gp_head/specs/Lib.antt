@@ -3,3 +3,4 @@ pub mod Steps
 pub mod Heads
 pub mod Texts
 pub mod Targets
+pub mod Writable
