@@ -1,5 +1,6 @@
 pub mod StepLemmas
 pub mod ExtentLemmas
+pub mod ScanLemmas
 pub mod GrammarEnds
 pub mod ByteClasses
 pub mod HeadLemmas

@@ -18,7 +18,7 @@ mod tests;
 mod write;
 
 pub use law::head_law;
-pub use read::{HeadRead, read_request, read_response};
+pub use read::{HeadRead, HeadScan, read_request, read_response};
 pub use scan::{MAX_FIELDS, MAX_HEAD};
 pub use target::{TargetFault, split_target};
 pub use write::{write_request, write_response};
