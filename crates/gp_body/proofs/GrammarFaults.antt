@@ -1,12 +1,15 @@
 -- Where a reading of a text is refused, and the grammar.
-use Rattle.std.proofs.Common.{◌≡◌, ℕ, suc, ◌+◌, ◌-◌, ◌^◌, ◌<◌, ◌≤◌, min, Bool, true, false, cond, List, [], ◌∷◌, ◌++◌, length, take, get_or, Option, Some, None, refl, sym, ap, ◌∙◌, subst, arith, append_assoc}
-use Rattle.std.proofs.lemmas.Bool.{cond_both}
+use Rattle.std.proofs.Common.{◌≡◌, ℕ, suc, ◌+◌, ◌-◌, ◌^◌, ◌<◌, ◌≤◌, min, Bool, true, false, cond, eqb, ◌&&◌, ◌≢◌, List, [], ◌∷◌, ◌++◌, length, take, get_or, Option, Some, None, refl, sym, ap, ◌∙◌, subst, arith, append_assoc}
+use Rattle.std.proofs.lemmas.Bool.{cond_both, eqb-false}
+use Rattle.gp_body.specs.declared.plan.BodyPlan.{BodyPlan}
 use Rattle.gp_body.specs.declared.state.State.{State}
 use Rattle.gp_body.specs.declared.fed.FedFault.{FedFault}
 use Rattle.gp_body.specs.declared.fed.FedFault.TheVariants.{Chunk, TooLong, Cut}
 use Rattle.gp_body.specs.declared.reading.Reading.{Reading}
 use Rattle.gp_body.specs.Steps.{is_end, is_content, after}
 use Rattle.gp_body.specs.Readings.{has_stopped, is_full, refused_by, moved, moved_or_refused, step, given_of, after_all, content_from}
+use Rattle.gp_body.specs.Wholes.{opening, reading_of, content_of}
+use Rattle.gp_body.proofs.EndLemmas.{counts}
 use Rattle.gp_body.proofs.ReadingLemmas.{stays}
 use Rattle.gp_body.proofs.WholeLemmas.{stopped_by_end}
 use Rattle.gp_body.proofs.GrammarComplete.{Ends, content_byte}
@@ -145,3 +148,27 @@ pub limit_is : (t : List ℕ) (r : Reading) → (after_all t r).limit ≡ r.limi
 unfolding after_all
 limit_is [] r = refl
 limit_is (b ∷ bs) r = limit_is bs (step b r) ∙ step_limit b r
+
+-- the count stays within the limit
+content_within : (given limit : ℕ) (t : Bool) → given ≤ limit → t && eqb given limit ≡ false → given + cond t 1 0 ≤ limit
+content_within given limit false within room = omega arith
+content_within given limit true within room = let less : given ≢ limit = eqb-false given limit room in omega arith
+
+moved_within : (o : Option State) (r : Reading) → r.given ≤ r.limit → is_full r ≡ false → (moved_or_refused o r).given ≤ (moved_or_refused o r).limit
+moved_within None r within room = within
+moved_within (Some s) r within room = content_within r.given r.limit (is_content r.state) within room
+
+step_within : (b : ℕ) (r : Reading) → r.given ≤ r.limit → (step b r).given ≤ (step b r).limit
+unfolding step
+step_within b r within =
+    cond_both (has_stopped r) r _ (λ (x : Reading). x.given ≤ x.limit) (λ e. within)
+    (λ e. cond_both (is_full r) (refused_by (TooLong r.limit) r) _ (λ (x : Reading). x.given ≤ x.limit) (λ f. within) (λ f. moved_within (after r.state b) r within f))
+
+all_within : (t : List ℕ) (r : Reading) → r.given ≤ r.limit → (after_all t r).given ≤ (after_all t r).limit
+unfolding after_all
+all_within [] r within = within
+all_within (b ∷ bs) r within = all_within bs (step b r) (step_within b r within)
+
+pub within_limit : (plan : BodyPlan) (limit : ℕ) (text : List ℕ) → length (content_of plan limit text) ≤ limit
+unfolding reading_of content_of
+within_limit plan limit text = omega (arith, counts plan limit text, all_within text (opening plan limit) (omega arith), limit_is text (opening plan limit))

@@ -1,6 +1,7 @@
 -- The law of bodies, part by part.
 use Rattle.std.proofs.Common.{◌≡◌, ℕ, zero, suc, ◌+◌, ◌<◌, ◌≤◌, Bool, true, false, ltb, List, [], ◌∷◌, ◌++◌, length, take, drop, get_or, Some, None, ◌⊎◌, inl, inr, refl, sym, ap, ◌∙◌, subst, arith, append_assoc, append-nil, length-append, length-take, length-drop, take-append-drop}
 use Rattle.std.proofs.lemmas.Bool.{ltb-true, lt-ltb}
+use Rattle.std.proofs.Math.Seq.{take-append_seam}
 use Rattle.std.proofs.lemmas.List.{take_more}
 use Rattle.gp_body.specs.declared.plan.BodyPlan.{BodyPlan}
 use Rattle.gp_body.specs.declared.plan.BodyPlan.TheVariants.{None as NoBody, Length, Chunked, ToClose}
@@ -12,16 +13,16 @@ use Rattle.gp_body.specs.Steps.{first_state, is_end, is_content, after}
 use Rattle.gp_body.specs.Readings.{after_all, content_from}
 use Rattle.gp_body.specs.Wholes.{opening, first_refusal, reading_of, content_of, is_ended, fault_of}
 use Rattle.gp_body.specs.Bodies.{Spells}
-use Rattle.gp_body.specs.Laws.{IsFramed, HasBody, Begins, StopsAt, IsOver, IsWhole, IsPlannedOver}
+use Rattle.gp_body.specs.Laws.{IsFramed, HasBody, Begins, Settles, StopsAt, IsOver, IsWhole, IsPlannedOver}
 use Rattle.gp_body.proofs.ReadingLemmas.{stays, after_all-append, content-append}
 use Rattle.gp_body.proofs.RunLemmas.{run_all, run_gives, too_long}
 use Rattle.gp_body.proofs.EndLemmas.{is_stream, all_keep, counts, is_waiting}
 use Rattle.gp_body.proofs.GrammarComplete.{Ends, complete}
 use Rattle.gp_body.proofs.GrammarRest.{Fits}
 use Rattle.gp_body.proofs.GrammarSound.{exactly, spells_chunks}
-use Rattle.gp_body.proofs.GrammarOpen.{can_end, ends_left}
+use Rattle.gp_body.proofs.GrammarOpen.{filled, can_end, ends_left}
 use Rattle.gp_body.proofs.GrammarReads.{joins_end, has_ended, is_whole}
-use Rattle.gp_body.proofs.GrammarFaults.{refused_at, place_is, Splits, splits, all_fit, limit_is}
+use Rattle.gp_body.proofs.GrammarFaults.{refused_at, place_is, Splits, splits, all_fit, limit_is, within_limit}
 
 no_bytes : (t : List ℕ) → length t ≡ 0 → t ≡ []
 no_bytes [] e = refl
@@ -79,6 +80,20 @@ ended_frames Chunked limit text end = tt
 ended_frames ToClose limit text end =
     let waits : is_ended ToClose limit text ≡ false = ap is_end (is_waiting ToClose limit text refl) in absurd (cc)
 
+tail_of : List ℕ → List ℕ
+tail_of [] = []
+tail_of (x ∷ xs) = xs
+
+-- a text that stands in front of both fillings is no longer than what stands before them
+not_longer : (xs more : List ℕ) (i j : ℕ) → take (length more) (xs ++ filled 0 i) ≡ more → take (length more) (xs ++ filled 1 j) ≡ more → length more ≤ length xs
+unfolding filled tail_of
+not_longer [] [] i j low high = omega arith
+not_longer [] (m ∷ ms) zero j low high = cc
+not_longer [] (m ∷ ms) (suc i) zero low high = cc
+not_longer [] (m ∷ ms) (suc i) (suc j) low high = cc
+not_longer (x ∷ xs) [] i j low high = omega arith
+not_longer (x ∷ xs) (m ∷ ms) i j low high = omega (arith, not_longer xs ms i j (ap tail_of low) (ap tail_of high))
+
 module _ (plan : BodyPlan) (limit : ℕ) where
   pub ended_law : (text : List ℕ) → is_ended plan limit text ≡ true → HasBody plan (content_of plan limit text) text
   unfolding reading_of content_of
@@ -101,20 +116,60 @@ module _ (plan : BodyPlan) (limit : ℕ) where
     | inr over ↦ absurd (spells_within plan limit content body spells few over.0)
   ]
 
-  -- from where an accepted text was read to, a body can go on to its end
+  -- from where an accepted text was read to, a body can go on to its end, with this byte for all content that is left
+  goes_to_end : (fill : ℕ) (text : List ℕ) → IsFramed plan → first_refusal plan limit ≡ None → (after_all text (opening plan limit)).refused ≡ None → is_end (after_all text (opening plan limit)).state ≡ false
+      → (k : ℕ) × ((behind : List ℕ) × Spells plan (content_from text (opening plan limit) ++ filled fill k) (text ++ behind))
+  goes_to_end fill text framed none accepted alive =
+      let now = after_all text (opening plan limit) in
+      let frames : is_stream now.state ≡ false = all_keep text (opening plan limit) ∙ first_frames plan framed in
+      let at = can_end fill now.state (all_fit text (opening plan limit) (first_fits plan)) frames in
+      let ends = joins_end text (opening plan limit) (filled fill at.count) at.text none accepted alive at.ends in
+      (at.count, (at.text, spells_of plan (content_from text (opening plan limit) ++ filled fill at.count) (text ++ at.text) framed ends))
+
   begins : (text : List ℕ) → IsFramed plan → first_refusal plan limit ≡ None → (after_all text (opening plan limit)).refused ≡ None → is_end (after_all text (opening plan limit)).state ≡ false
       → Begins plan (content_from text (opening plan limit)) text
   begins text framed none accepted alive =
-      let now = after_all text (opening plan limit) in
-      let frames : is_stream now.state ≡ false = all_keep text (opening plan limit) ∙ first_frames plan framed in
-      let at = can_end now.state (all_fit text (opening plan limit) (first_fits plan)) frames in
-      let ends = joins_end text (opening plan limit) at.content at.text none accepted alive at.ends in
-      record { rest = at.content; behind = at.text; spells = spells_of plan (content_from text (opening plan limit) ++ at.content) (text ++ at.text) framed ends }
+      let at = goes_to_end 0 text framed none accepted alive in
+      record { rest = filled 0 at.0; behind = at.1.0; spells = at.1.1 }
 
-  pub goes_on_law : (text : List ℕ) → IsFramed plan → fault_of plan limit text ≡ None → is_ended plan limit text ≡ false → Begins plan (content_of plan limit text) text
+  settles : (text : List ℕ) → IsFramed plan → first_refusal plan limit ≡ None → (after_all text (opening plan limit)).refused ≡ None → is_end (after_all text (opening plan limit)).state ≡ false
+      → Settles plan (content_from text (opening plan limit)) text
+  settles text framed none accepted alive =
+      let content = content_from text (opening plan limit) in
+      record {
+        begins = begins text framed none accepted alive;
+        each = λ whole behind spells.
+            let at = splits text behind (opening plan limit) whole none accepted alive (ends_of plan whole (text ++ behind) framed spells) in
+            ap (take (length content)) at.content ∙ take-append_seam content at.others;
+        longest = λ more is.
+            let low = goes_to_end 0 text framed none accepted alive in
+            let high = goes_to_end 1 text framed none accepted alive in
+            not_longer content more low.0 high.0 (is _ low.1.0 low.1.1) (is _ high.1.0 high.1.1);
+      }
+
+  -- nothing stands behind a body that ends with the text's last byte and not before
+  pub exact_law : (text : List ℕ) → is_ended plan limit text ≡ true → ((n : ℕ) → n < length text → is_ended plan limit (take n text) ≡ false) → Spells plan (content_of plan limit text) text
+  exact_law text end waits =
+      let at = ended_law text end in
+      let framed = ended_frames plan limit text end in
+      let few : length (content_of plan limit text) ≤ limit = within_limit plan limit text in
+      let whole = whole_law (content_of plan limit text) at.body [] framed at.spells few in
+      let all : at.body ++ [] ≡ at.body = append-nil at.body in
+      let ended : is_ended plan limit at.body ≡ true = rw all at whole.ended in
+      let front : take (length at.body) text ≡ at.body = ap (take (length at.body)) at.text_is ∙ take-append_seam at.body at.behind in
+      by_rest text at.body at.behind at.text_is (λ less. let open_still : is_ended plan limit (take (length at.body) text) ≡ false = waits (length at.body) less in absurd_end (is_ended plan limit at.body) ended (ap (is_ended plan limit) (sym front) ∙ open_still)) at.spells
+    where
+      absurd_end : (b : Bool) → b ≡ true → b ≡ false → ⊥
+      absurd_end b t f = cc
+
+      by_rest : (t body behind : List ℕ) → t ≡ body ++ behind → (length body < length t → ⊥) → Spells plan (content_of plan limit text) body → Spells plan (content_of plan limit text) t
+      by_rest t body [] is none spells = let same : body ≡ t = sym (append-nil body) ∙ sym is in subst (λ (x : List ℕ). Spells plan (content_of plan limit text) x) same spells
+      by_rest t body (x ∷ xs) is none spells = absurd (none (omega (arith, ap length is, length-append body (x ∷ xs))))
+
+  pub goes_on_law : (text : List ℕ) → IsFramed plan → fault_of plan limit text ≡ None → is_ended plan limit text ≡ false → Settles plan (content_of plan limit text) text
   unfolding reading_of content_of
   goes_on_law text framed accepted alive = elim (opens plan limit) [
-    | inl none ↦ begins text framed none accepted alive
+    | inl none ↦ settles text framed none accepted alive
     | inr over ↦
         let told : (after_all text (opening plan limit)).refused ≡ Some (TooLong limit) = ap (λ (x : Reading). x.refused) (stays text (opening plan limit) (rw over.1 refl)) ∙ over.1 in
         absurd (cc)

@@ -4,6 +4,7 @@ pub mod WholeLemmas
 pub mod EndLemmas
 pub mod CountLemmas
 pub mod PlanLemmas
+pub mod GatherLemmas
 pub mod PieceLemmas
 pub mod ChunkLemmas
 pub mod GrammarComplete

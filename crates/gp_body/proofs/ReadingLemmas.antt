@@ -1,12 +1,13 @@
 -- How a reading goes over several bytes.
-use Rattle.std.proofs.Common.{◌≡◌, ℕ, zero, suc, ◌+◌, ◌-◌, ◌^◌, ◌<◌, min, Bool, true, false, not, ◌||◌, List, [], ◌∷◌, ◌++◌, length, take, drop, get_or, Option, Some, None, refl, sym, ap, ◌∙◌, arith, append_assoc, add-zero, take-append-drop}
+use Rattle.std.proofs.Common.{◌≡◌, ℕ, zero, suc, ◌+◌, ◌-◌, ◌^◌, ◌<◌, ◌≤◌, min, Bool, true, false, not, ◌||◌, List, [], ◌∷◌, ◌++◌, length, take, drop, get_or, Option, Some, None, refl, sym, ap, ◌∙◌, arith, append_assoc, add-zero, take-append-drop, length-append}
+use Rattle.std.proofs.lemmas.Bool.{cond_both}
 use Rattle.std.proofs.lemmas.List.{take_more}
 use Rattle.gp_body.specs.declared.state.State.{State}
 use Rattle.gp_body.specs.declared.fed.FedFault.{FedFault}
 use Rattle.gp_body.specs.declared.fed.FedFault.TheVariants.{Chunk}
 use Rattle.gp_body.specs.declared.reading.Reading.{Reading}
 use Rattle.gp_body.specs.Steps.{is_end, is_content, is_framing, after}
-use Rattle.gp_body.specs.Readings.{has_stopped, refused_by, moved_or_refused, step, given_of, after_all, content_from, Refuses}
+use Rattle.gp_body.specs.Readings.{has_stopped, is_full, refused_by, moved_or_refused, step, given_of, after_all, content_from, Refuses}
 
 pub after_all-append : (xs ys : List ℕ) (r : Reading) → after_all (xs ++ ys) r ≡ after_all ys (after_all xs r)
 unfolding after_all
@@ -38,8 +39,21 @@ unfolding content_from
 gives_none [] r h = refl
 gives_none (b ∷ bs) r h = rw (given_stopped b r h, step_stopped b r h) (gives_none bs r h)
 
+given_few : (b : ℕ) (r : Reading) → length (given_of b r) ≤ 1
+unfolding given_of
+given_few b r =
+    cond_both (has_stopped r) [] _ (λ (x : List ℕ). length x ≤ 1) (λ e. omega arith)
+    (λ e. cond_both (is_full r) [] _ (λ (x : List ℕ). length x ≤ 1) (λ f. omega arith)
+    (λ f. cond_both (is_content r.state) (b ∷ []) [] (λ (x : List ℕ). length x ≤ 1) (λ g. omega arith) (λ g. omega arith)))
+
+-- no more content than bytes
+pub content_few : (bs : List ℕ) (r : Reading) → length (content_from bs r) ≤ length bs
+unfolding content_from
+content_few [] r = omega arith
+content_few (b ∷ bs) r = omega (arith, given_few b r, content_few bs (step b r), length-append (given_of b r) (content_from bs (step b r)))
+
 -- what framing is
-not_end : (e c : Bool) → not (e || c) ≡ true → e ≡ false
+pub not_end : (e c : Bool) → not (e || c) ≡ true → e ≡ false
 not_end true c h = cc
 not_end false c h = refl
 

@@ -1,9 +1,9 @@
 -- What a feed takes, of the bytes and of the whole text.
-use Rattle.std.proofs.Common.{◌∷◌, ◌≡◌, ℕ, zero, suc, ◌+◌, ◌<◌, ◌≤◌, Bool, true, false, not, ◌||◌, List, [], ◌++◌, length, take, drop, Some, None, ◌⊎◌, inl, inr, refl, sym, ap, ◌∙◌, arith, append-nil, length-drop, take-append-drop, get_or, cond, eq-eqb}
+use Rattle.std.proofs.Common.{◌∷◌, ◌≡◌, ℕ, zero, suc, ◌+◌, ◌-◌, ◌<◌, ◌≤◌, Bool, true, false, not, ◌||◌, List, [], ◌++◌, length, take, drop, Some, None, ◌⊎◌, inl, inr, refl, sym, ap, ◌∙◌, arith, append-nil, length-take, length-drop, take-append-drop, get_or, ltb, cond, eq-eqb}
 use Rattle.std.specs.Prelude.{is_some, Result, Ok, Err}
 use Rattle.std.proofs.Math.Seq.{take-add}
-use Rattle.std.proofs.lemmas.Bool.{cond_both}
-use Rattle.std.proofs.lemmas.List.{take_more}
+use Rattle.std.proofs.lemmas.Bool.{cond_both, ltb-true, ltb-false}
+use Rattle.std.proofs.lemmas.List.{take_more, take-take}
 use Rattle.gp_body.specs.declared.plan.BodyPlan.{BodyPlan}
 use Rattle.gp_body.specs.declared.state.State.{State}
 use Rattle.gp_body.specs.declared.fed.Fed.{Fed}
@@ -12,7 +12,7 @@ use Rattle.gp_body.specs.declared.reading.Reading.{Reading}
 use Rattle.gp_body.specs.Steps.{is_end, is_content, is_framing}
 use Rattle.gp_body.specs.Readings.{has_stopped, after_all, content_from, Skips, Refuses, Takes, given_of, is_full}
 use Rattle.gp_body.specs.Wholes.{opening, reading_of, content_of, Feeds, IsFed, IsFedAt}
-use Rattle.gp_body.proofs.ReadingLemmas.{after_all-append, content-append, stays, gives_none}
+use Rattle.gp_body.proofs.ReadingLemmas.{after_all-append, content-append, content_few, stays, gives_none, not_end}
 
 end_or_content : (e c : Bool) → not (e || c) ≡ false → e ≡ false → c ≡ true
 end_or_content true c h n = cc
@@ -96,14 +96,54 @@ module _ (r mid r' : Reading) (bytes : List ℕ) (from run : ℕ) (skips : Skips
       ∙ ap (λ (x : Reading). content_from (take (from + run) bytes) r ++ content_from (b ∷ []) x) both
       ∙ ap (λ (c : List ℕ). content_from (take (from + run) bytes) r ++ c) one ∙ append-nil (content_from (take (from + run) bytes) r)
 
+  -- the body hadn't ended in front of any byte taken
+  front_waits : (k : ℕ) → k < from → is_end (after_all (take k bytes) r).state ≡ false
+  front_waits k less = let s = (after_all (take k bytes) r).state in not_end (is_end s) (is_content s) (skips.waits k less)
+
+  -- nor in the run, since nothing behind an end is content
+  split_run : (j : ℕ) → j < run → take run (drop from bytes) ≡ take j (drop from bytes) ++ drop j (take run (drop from bytes))
+  split_run j less =
+      sym (take-append-drop j (take run (drop from bytes)))
+      ∙ ap (λ (x : List ℕ). x ++ drop j (take run (drop from bytes))) (take-take j run (drop from bytes) (omega arith))
+
+  run_waits : (j : ℕ) → j < run → is_end (after_all (take j (drop from bytes)) mid).state ≡ false
+  run_waits j less = by_end (is_end (after_all (take j (drop from bytes)) mid).state) refl
+    where
+      by_end : (t : Bool) → is_end (after_all (take j (drop from bytes)) mid).state ≡ t → is_end (after_all (take j (drop from bytes)) mid).state ≡ false
+      by_end false e = e
+      by_end true e =
+          let at = after_all (take j (drop from bytes)) mid in
+          let others = drop j (take run (drop from bytes)) in
+          let gives : content_from (take run (drop from bytes)) mid ≡ content_from (take j (drop from bytes)) mid =
+          ap (λ (x : List ℕ). content_from x mid) (split_run j less) ∙ content-append (take j (drop from bytes)) others mid
+          ∙ ap (λ (x : List ℕ). content_from (take j (drop from bytes)) mid ++ x) (gives_none others at (stopped_by_end at e)) ∙ append-nil (content_from (take j (drop from bytes)) mid) in
+          absurd (omega (arith, less, ap length (sym takes.content ∙ gives), content_few (take j (drop from bytes)) mid, length-take j (drop from bytes), length-take run (drop from bytes), takes.within))
+
+  behind_front : (j : ℕ) → after_all (take (from + j) bytes) r ≡ after_all (take j (drop from bytes)) mid
+  behind_front j = rw (take-add from j bytes, after_all-append (take from bytes) (take j (drop from bytes)) r, ← skips.reading) refl
+
+  waits_for : (k : ℕ) → k < from + run → is_end (after_all (take k bytes) r).state ≡ false
+  waits_for k less = by_front (ltb k from) refl
+    where
+      by_front : (t : Bool) → ltb k from ≡ t → is_end (after_all (take k bytes) r).state ≡ false
+      by_front true e = front_waits k (ltb-true k from e)
+      by_front false e =
+          let past = ltb-false k from e in
+          let j = k - from in
+          let place : k ≡ from + j = omega (arith, past) in
+          let read : after_all (take k bytes) r ≡ after_all (take j (drop from bytes)) mid =
+          ap (λ (n : ℕ). after_all (take n bytes) r) place ∙ behind_front j in
+          ap (λ (x : Reading). is_end x.state) read ∙ run_waits j (omega arith)
+
   pub feeds : (fed : Fed) → fed.taken ≡ from + run → fed.from ≡ from → fed.to ≡ from + run → fed.end ≡ is_end r'.state → Feeds r bytes fed r'
   feeds fed taken_is from_is to_is end_is = record {
-    order = record { run = omega arith; taken = omega arith; within = omega (arith, inside) };
+    order = record { run = omega arith; taken = omega arith; within = omega (arith, inside); last = λ some. omega arith };
     reading = rw taken_is (sym both);
     run = rw (taken_is, from_is, to_is) (content ∙ ap (λ (n : ℕ). take n (drop from bytes)) (omega arith));
     whole = λ more. rw taken_is (behind (rw taken_is at more));
     goes_on = takes.goes_on;
     ended = end_is;
+    waits = λ n less. waits_for n (omega arith);
     moves = λ going some. rw taken_is (moves going some);
     stops = λ more going. omega (arith, stops (rw taken_is at more) (sym end_is ∙ going));
   }
@@ -145,6 +185,7 @@ module _ (plan : BodyPlan) (limit : ℕ) (text : List ℕ) (r : Reading) (stands
         run = grown_content (take fed.taken bytes) ∙ ap (λ (c : List ℕ). content_of plan limit text ++ c) feeds.run;
         goes_on = ap (λ (x : Reading). x.refused) (sym reads) ∙ feeds.goes_on;
         ended = feeds.ended ∙ ap (λ (x : Reading). is_end x.state) reads;
+        waits = λ n less. ap (λ (x : Reading). is_end x.state) (sym (grown (take n bytes))) ∙ feeds.waits n less;
         moves = λ going some. feeds.moves (ap (λ (x : Reading). is_end x.state) stands ∙ going) some;
         stops = feeds.stops;
       }

@@ -26,6 +26,17 @@ pub record Begins (plan : BodyPlan) (content text : List ℕ) : Type 0 where
   pub behind : List ℕ
   pub spells : Spells plan (content ++ rest) (text ++ behind)
 
+-- the content of each body that begins with the text begins with this
+abbrev pub IsInEach : BodyPlan → List ℕ → List ℕ → Type 0
+IsInEach plan content text = (whole behind : List ℕ) → Spells plan whole (text ++ behind) → take (length content) whole ≡ content
+
+-- the text begins a body, and this is all the content that it settles: the longest beginning that the contents of the
+-- bodies which begin with it have in common
+pub record Settles (plan : BodyPlan) (content text : List ℕ) : Type 0 where
+  pub begins : Begins plan content text
+  pub each : IsInEach plan content text
+  pub longest : (more : List ℕ) → IsInEach plan more text → length more ≤ length content
+
 -- some body begins with the text
 pub record CanGoOn (plan : BodyPlan) (text : List ℕ) : Type 0 where
   pub content : List ℕ
@@ -63,12 +74,16 @@ pub record IsPlannedOver (plan : BodyPlan) (limit : ℕ) : Type 0 where
 pub record BodyLaw : Type 0 where
   -- where reading ends, a body has ended, and its content was read
   pub ended : (plan : BodyPlan) (limit : ℕ) (text : List ℕ) → is_ended plan limit text ≡ true → HasBody plan (content_of plan limit text) text
+  -- where it ends with the text's last byte and not before, the text is the body, and nothing stands behind it
+  pub exact : (plan : BodyPlan) (limit : ℕ) (text : List ℕ) → is_ended plan limit text ≡ true → ((n : ℕ) → n < length text → is_ended plan limit (take n text) ≡ false)
+      → Spells plan (content_of plan limit text) text
   -- each body within the limit is read to its end, and what follows it isn't read
   pub whole : (plan : BodyPlan) (limit : ℕ) (content body behind : List ℕ) → IsFramed plan → Spells plan content body → length content ≤ limit
       → IsWhole plan limit (body ++ behind) content
-  -- a text that isn't refused and in which no body has ended begins a body, with the content that was read
+  -- a text that isn't refused and in which no body has ended begins a body, and what was read is the content that it
+  -- settles
   pub goes_on : (plan : BodyPlan) (limit : ℕ) (text : List ℕ) → IsFramed plan → fault_of plan limit text ≡ None → is_ended plan limit text ≡ false
-      → Begins plan (content_of plan limit text) text
+      → Settles plan (content_of plan limit text) text
   -- up to the close each byte is content
   pub to_close : (limit : ℕ) (text : List ℕ) → length text ≤ limit → (fault_of ToClose limit text ≡ None) × (content_of ToClose limit text ≡ text)
   pub over_to_close : (limit : ℕ) (text : List ℕ) → limit < length text → (fault_of ToClose limit text ≡ Some (TooLong limit)) × (content_of ToClose limit text ≡ take limit text)

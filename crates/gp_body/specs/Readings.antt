@@ -52,12 +52,13 @@ pub record IsSound (r : Reading) : Type 0 where
   pub state : steps.IsSound r.state
   pub within : r.given ≤ r.limit
 
--- the first n bytes were taken, and none of them is content
+-- the first n bytes were taken; each was waited for, and none of them is content
 pub record Skips (r : Reading) (bytes : List ℕ) (n : ℕ) (r' : Reading) : Type 0 where
   pub within : n ≤ length bytes
   pub reading : r' ≡ after_all (take n bytes) r
   pub no_content : content_from (take n bytes) r ≡ []
   pub goes_on : r'.refused ≡ None
+  pub waits : (k : ℕ) → k < n → is_framing (after_all (take k bytes) r).state ≡ true
   pub stops : n < length bytes → is_framing r'.state ≡ false
   pub moves : is_framing r.state ≡ true → 0 < length bytes → 0 < n
 

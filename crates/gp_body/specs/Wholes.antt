@@ -37,13 +37,15 @@ is_ended plan limit text = is_end (reading_of plan limit text).state
 abbrev pub fault_of : BodyPlan → ℕ → List ℕ → Option FedFault
 fault_of plan limit text = (reading_of plan limit text).refused
 
--- where what was taken stands in the bytes
+-- where what was taken stands in the bytes; where there is a run, its end is that of what was taken
 pub record IsOrdered (bytes : List ℕ) (fed : Fed) : Type 0 where
   pub run : fed.from ≤ fed.to
   pub taken : fed.to ≤ fed.taken
   pub within : fed.taken ≤ length bytes
+  pub last : fed.from < fed.to → fed.taken ≡ fed.to
 
--- the first bytes were taken; a run of them is all the content among them, and the byte behind them is none
+-- the first bytes were taken; a run of them is all the content among them, and the byte behind them is none; the body
+-- hadn't ended in front of any byte that was taken
 pub record Feeds (r : Reading) (bytes : List ℕ) (fed : Fed) (r' : Reading) : Type 0 where
   pub order : IsOrdered bytes fed
   pub reading : r' ≡ after_all (take fed.taken bytes) r
@@ -51,6 +53,7 @@ pub record Feeds (r : Reading) (bytes : List ℕ) (fed : Fed) (r' : Reading) : T
   pub whole : fed.taken < length bytes → content_from (take (fed.taken + 1) bytes) r ≡ content_from (take fed.taken bytes) r
   pub goes_on : r'.refused ≡ None
   pub ended : fed.end ≡ is_end r'.state
+  pub waits : (n : ℕ) → n < fed.taken → is_end (after_all (take n bytes) r).state ≡ false
   pub moves : is_end r.state ≡ false → 0 < length bytes → 0 < fed.taken
   pub stops : fed.taken < length bytes → fed.end ≡ false → fed.from < fed.to
 
@@ -67,6 +70,7 @@ pub record FeedsAt (plan : BodyPlan) (limit : ℕ) (text bytes : List ℕ) (fed 
   pub whole : fed.taken < length bytes → content_of plan limit (text ++ take (fed.taken + 1) bytes) ≡ content_of plan limit (text ++ take fed.taken bytes)
   pub goes_on : fault_of plan limit (text ++ take fed.taken bytes) ≡ None
   pub ended : fed.end ≡ is_ended plan limit (text ++ take fed.taken bytes)
+  pub waits : (n : ℕ) → n < fed.taken → is_ended plan limit (text ++ take n bytes) ≡ false
   pub moves : is_ended plan limit text ≡ false → 0 < length bytes → 0 < fed.taken
   pub stops : fed.taken < length bytes → fed.end ≡ false → fed.from < fed.to
 

@@ -20,3 +20,21 @@ pub enum FedFault {
     /// The input ended behind so many bytes of content, and the body hadn't ended.
     Cut(u64),
 }
+
+/// What a feed of all bytes took.
+#[derive(Clone, Copy, Drop, Debug, PartialEq)]
+pub struct FedAll {
+    /// How many bytes were taken: all, unless the body ended among them.
+    pub taken: usize,
+    /// Whether the body has ended behind the bytes taken.
+    pub end: bool,
+}
+
+/// Why a feed of all bytes gives up.
+#[derive(Clone, Copy, Drop, Debug, PartialEq)]
+pub enum FedAllFault {
+    /// The body is refused. Its content before the fault was given.
+    Body(FedFault),
+    /// There is no memory for the content. Nothing was taken.
+    NoMemory,
+}

@@ -11,6 +11,7 @@
 mod chunk;
 mod fed;
 mod field;
+mod gather;
 mod law;
 mod pieces;
 mod plan;
@@ -21,7 +22,7 @@ mod state;
 mod tests;
 
 pub use chunk::chunk_head;
-pub use fed::{Fed, FedFault};
+pub use fed::{Fed, FedAll, FedAllFault, FedFault};
 pub use law::body_law;
 pub use pieces::{BodyRead, read_pieces};
 pub use plan::{BodyFault, BodyPlan};

@@ -1,9 +1,9 @@
 ghost use Rattle.std.specs.Prelude.{◌≡◌, ◌++◌, IfOk};
 ghost use Rattle.std.specs.List.{flat_map};
 ghost use Rattle.gp_body.specs.Readings.{after_all, content_from};
-ghost use Rattle.gp_body.specs.Wholes.{reading_of, content_of, fault_of, is_ended, IsReadOf};
+ghost use Rattle.gp_body.specs.Wholes.{IsReadOf};
 
-use crate::fed::FedFault;
+use crate::fed::{FedAllFault, FedFault};
 use crate::plan::BodyPlan;
 use crate::reader::BodyReader;
 use gp_plain::Body;
@@ -42,7 +42,7 @@ pub fn read_pieces(
     })
 }
 
-/// Feeds one piece, and adds its content.
+/// Feeds one piece, and adds its content, up to a refusal if there is one.
 fn feed_piece(
     reader: &mut BodyReader,
     piece: &[u8],
@@ -50,16 +50,9 @@ fn feed_piece(
 ) -> Result<(), AllocError>
     ensures { IfOk result (λ _. (reader.new ≡ after_all piece.now reader.old) × (content.new.items ≡ content.old.items ++ content_from piece.now reader.old)) }
 {
-    let mut rest = piece;
-    while !rest.is_empty() {
-        let Ok(fed) = reader.feed(rest) else {
-            return Ok(());
-        };
-        content.extend_from_slice(&rest[fed.from..fed.to])?;
-        if fed.end {
-            return Ok(());
-        }
-        rest = &rest[fed.taken..];
+    match reader.feed_all(piece, content) {
+        Ok(_) => Ok(()),
+        Err(FedAllFault::Body(_)) => Ok(()),
+        Err(FedAllFault::NoMemory) => Err(AllocError),
     }
-    Ok(())
 }

@@ -2,9 +2,11 @@ ghost use Rattle.std.specs.Prelude.{◌≡◌, [], Err, List, Some, ℕ};
 ghost use Rattle.gp_body.specs.declared.fed.FedFault.{FedFault};
 ghost use Rattle.gp_body.specs.declared.plan.BodyPlan.{BodyPlan};
 ghost use Rattle.gp_body.specs.Steps.{is_end};
+ghost use Rattle.gp_body.specs.declared.fed.FedAllFault.TheVariants.{Body};
+ghost use Rattle.gp_body.specs.Alls.{IsAllFed, IsAllFedAt};
 ghost use Rattle.gp_body.specs.Wholes.{reading_of, IsFed, IsFedAt, IsFinished, IsFinishedAt};
 
-use crate::fed::{Fed, FedFault};
+use crate::fed::{Fed, FedAll, FedAllFault, FedFault};
 use crate::plan::BodyPlan;
 use crate::reading::Reading;
 use std::marker::Model;
@@ -53,6 +55,19 @@ impl BodyReader {
         ensures at { (plan : BodyPlan) (limit : ℕ) (text : List ℕ) → self.old ≡ reading_of plan limit text → IsFedAt plan limit text bytes.now result self.new }
     {
         self.reading.feed(bytes)
+    }
+
+    /// Takes all bytes, or those up to the body's end, and adds their content to a `Vec`, each byte copied once. Bytes
+    /// behind the body's end aren't taken.
+    ///
+    /// It makes room for as many bytes as come before it takes the first, so want of memory changes nothing. A refusal
+    /// is as `feed` has it, and the content before it was added.
+    pub fn feed_all(&mut self, bytes: &[u8], into: &mut Vec<u8>) -> Result<FedAll, FedAllFault>
+        ensures fed { IsAllFed self.old bytes.now result self.new into.old.items into.new.items }
+        ensures again { (fault : FedFault) → self.old.refused ≡ Some fault → (result ≡ Err (Body fault)) × (self.new ≡ self.old) × (into.new.items ≡ into.old.items) }
+        ensures at { (plan : BodyPlan) (limit : ℕ) (text : List ℕ) → self.old ≡ reading_of plan limit text → IsAllFedAt plan limit text bytes.now result self.new into.old.items into.new.items }
+    {
+        self.reading.feed_all(bytes, into)
     }
 
     /// Says that the input ended. It is Ok exactly for a body that has ended, or that goes on to the close; the body

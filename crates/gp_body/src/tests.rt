@@ -259,6 +259,42 @@ fn bounds_lines_of_chunked_bodies(rt: HostRuntime) -> Result<(), Fail> {
 }
 
 #[test]
+fn feeds_all_bytes(rt: HostRuntime) -> Result<(), Fail> {
+    let alloc = rt.alloc();
+    let chunked = BodyPlan::Chunked;
+    let rows: [(BodyPlan, u64, &[u8], &[u8]); 7] = [
+        (
+            chunked,
+            9,
+            b"2\r\nhe\r\n3\r\nllo\r\n0\r\n\r\nGET",
+            b">hello|20 end",
+        ),
+        (chunked, 9, b"5\r\nhe", b">he|5"),
+        (chunked, 9, b"5\r\nhelloX", b">hello|chunk 8"),
+        (chunked, 4, b"5\r\nhello", b">hell|too long 4"),
+        (BodyPlan::Length(5), 9, b"hello!", b">hello|5 end"),
+        (BodyPlan::Length(5), 4, b"", b">|too long 4"),
+        (BodyPlan::None, 9, b"GET", b">|0 end"),
+    ];
+    for (plan, limit, bytes, wanted) in rows {
+        let mut shown = b">".to_vec(alloc)?;
+        let fed = BodyReader::new(plan, limit).feed_all(bytes, &mut shown);
+        let end = match fed {
+            Ok(fed) if fed.end => format!(in alloc; "|{} end", fed.taken)?.into_bytes(),
+            Ok(fed) => format!(in alloc; "|{}", fed.taken)?.into_bytes(),
+            Err(FedAllFault::Body(fault)) => {
+                shown.extend_from_slice(b"|")?;
+                shown_fault(alloc, fault)?
+            }
+            Err(FedAllFault::NoMemory) => b"|no memory".to_vec(alloc)?,
+        };
+        shown.extend_from_slice(end.as_slice())?;
+        assert_eq!(rt; shown.as_slice(), wanted);
+    }
+    Ok(())
+}
+
+#[test]
 fn answers_a_refusal_again(rt: HostRuntime) -> Result<(), Fail> {
     let mut reader = BodyReader::new(BodyPlan::Length(3), 9);
     assert!(rt; reader.feed(b"he").is_ok());

@@ -1,14 +1,12 @@
 -- How far a head reaches, from what the scanner finds in the bytes that it looks at, and that later bytes do not change it.
-use Rattle.std.proofs.Common.{◌≡◌, ℕ, ◌+◌, ◌-◌, ◌<◌, ◌≤◌, ◌⊎◌, true, false, cond, leb, List, [], ◌++◌, length, get_or, take, drop, Option, Some, None, refl, sym, ap, ◌∙◌, arith, min, inl, inr, append-nil, take_all, length-append, lt-ltb, le-ltb, le-leb}
+use Rattle.std.proofs.Common.{◌≡◌, ℕ, ◌+◌, ◌-◌, ◌<◌, ◌≤◌, ◌⊎◌, false, leb, List, [], ◌++◌, length, take, drop, Option, Some, None, refl, sym, ap, ◌∙◌, arith, inl, inr, append-nil, take_all, length-append, lt-ltb, le-ltb, le-leb}
 use Rattle.std.proofs.lemmas.Bool.{lt-leb, cases_lt, and_right}
 use Rattle.std.proofs.Math.Seq.{take-append-add}
-use Rattle.std.proofs.lemmas.List.{take-append-le, length-take-le, take_min, at_drop_more, at_drop_all, take-append-drop}
-use Rattle.gp_head.specs.declared.scan.State.{State}
-use Rattle.gp_head.specs.declared.scan.State.TheVariants.{Before, End}
+use Rattle.std.proofs.lemmas.List.{take-append-le, length-take-le, take-append-drop}
+use Rattle.gp_head.specs.declared.scan.State.TheVariants.{Before}
 use Rattle.gp_head.specs.declared.scan.Extent.TheVariants.{TooMany, TooLong, More, Ends}
 use Rattle.gp_head.specs.Lines.{begun_fields, head_end, extent_of}
-use Rattle.gp_head.specs.Steps.{after, begins_field}
-use Rattle.gp_head.proofs.StepLemmas.{is_end, later, end_from, begun_from, end_from-head_end, begun_from-begun_fields, begun_at_end, end_at_end, ends_in, begun_from-append}
+use Rattle.gp_head.proofs.StepLemmas.{end_from-head_end, begun_from-begun_fields, ends_in, begun_from-append}
 
 -- an end that is there stays, and is that of the bytes up to it
 pub record EndStays (text more : List ℕ) (n : ℕ) : Type 0 where
@@ -93,52 +91,6 @@ ends_at bytes n e = by_count (cases_lt 64 (begun_fields (take 16384 bytes)))
     by_count : (64 < begun_fields (take 16384 bytes)) ⊎ (begun_fields (take 16384 bytes) ≤ 64) → EndsAt bytes n
     by_count (inl many) = let other = extent_too_many bytes many in cc
     by_count (inr few) = by_end few (head_end (take 16384 bytes)) refl
-
--- ---- the scanner's answers
-
--- what holds before the byte at place i of what it looks at, where s is its state
-pub record IsBefore (front : List ℕ) (i fields : ℕ) (s : State) : Type 0 where
-  pub begun : fields + begun_from (drop i front) s ≡ begun_from front Before
-  pub end : later i (end_from (drop i front) s) ≡ end_from front Before
-
-module _ (bytes : List ℕ) (m : ℕ) (limit : m ≡ min 16384 (length bytes)) where
-  front_is : take m bytes ≡ take 16384 bytes
-  front_is = ap (λ (k : ℕ). take k bytes) limit ∙ take_min 16384 bytes
-
-  begun_is : begun_from (take m bytes) Before ≡ begun_fields (take 16384 bytes)
-  begun_is = begun_from-begun_fields (take m bytes) ∙ ap begun_fields front_is
-
-  end_is : end_from (take m bytes) Before ≡ head_end (take 16384 bytes)
-  end_is = end_from-head_end (take m bytes) ∙ ap head_end front_is
-
-  pub scan_too_many : (i fields : ℕ) (s : State) → IsBefore (take m bytes) i fields s → i < length (take m bytes) → fields ≡ 64
-      → begins_field s (get_or (take m bytes) i 0) ≡ true → extent_of bytes ≡ TooMany
-  scan_too_many i fields s before inside full begins =
-      let step = at_drop_more (λ (xs : List ℕ). begun_from xs s) (take m bytes) i 0 inside in
-      let more : begun_from (drop i (take m bytes)) s ≡ 1 + begun_from (drop (i + 1) (take m bytes)) (after s (get_or (take m bytes) i 0)) = rw begins at step in
-      extent_too_many bytes (omega (arith, before.begun, begun_is))
-
-  pub scan_ends : (i fields : ℕ) (s : State) → IsBefore (take m bytes) i fields s → is_end s ≡ false → i < length (take m bytes)
-      → End ≡ after s (get_or (take m bytes) i 0) → fields + cond (begins_field s (get_or (take m bytes) i 0)) 1 0 ≤ 64
-      → extent_of bytes ≡ Ends (i + 1)
-  scan_ends i fields s before running inside ends few =
-      let begun = at_drop_more (λ (xs : List ℕ). begun_from xs s) (take m bytes) i 0 inside in
-      let end = at_drop_more (λ (xs : List ℕ). end_from xs s) (take m bytes) i 0 inside in
-      let here : end_from (drop i (take m bytes)) s ≡ later 1 (end_from (drop (i + 1) (take m bytes)) End) = rw (running, ← ends) at end in
-      let there : end_from (drop (i + 1) (take m bytes)) End ≡ Some 0 = end_at_end (drop (i + 1) (take m bytes)) End refl in
-      let none : begun_from (drop (i + 1) (take m bytes)) End ≡ 0 = begun_at_end (drop (i + 1) (take m bytes)) End refl in
-      let rest : begun_from (drop i (take m bytes)) s ≡ cond (begins_field s (get_or (take m bytes) i 0)) 1 0 + begun_from (drop (i + 1) (take m bytes)) End = rw (← ends) at begun in
-      let found : head_end (take 16384 bytes) ≡ Some (i + (1 + 0)) =
-      sym end_is ∙ sym before.end ∙ ap (later i) (here ∙ ap (later 1) there) in
-      extent_ends bytes (i + 1) (omega (arith, before.begun, begun_is)) found
-
-  pub scan_none : (i fields : ℕ) (s : State) → IsBefore (take m bytes) i fields s → is_end s ≡ false → length (take m bytes) ≤ i → fields ≤ 64
-      → (begun_fields (take 16384 bytes) ≤ 64) × (head_end (take 16384 bytes) ≡ None)
-  scan_none i fields s before running past few =
-      let begun = at_drop_all (λ (xs : List ℕ). begun_from xs s) (take m bytes) i past in
-      let end = at_drop_all (λ (xs : List ℕ). end_from xs s) (take m bytes) i past in
-      let none : end_from (drop i (take m bytes)) s ≡ None = rw running at end in
-      (omega (arith, before.begun, begun_is), sym end_is ∙ sym before.end ∙ ap (later i) none)
 
 -- ---- more bytes
 

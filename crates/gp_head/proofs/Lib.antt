@@ -1,9 +1,11 @@
 pub mod StepLemmas
 pub mod ExtentLemmas
+pub mod ScanLemmas
 pub mod GrammarEnds
 pub mod ByteClasses
 pub mod HeadLemmas
 pub mod SettledLemmas
 pub mod TargetLemmas
+pub mod PathTargets
 pub mod RoundTrip
 pub mod OneHead

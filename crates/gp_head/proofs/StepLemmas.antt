@@ -8,15 +8,7 @@ use Rattle.gp_head.specs.declared.scan.State.{State}
 use Rattle.gp_head.specs.declared.scan.State.TheVariants.{Before, BeforeReturn, First, Start, StartReturn, Inside, End}
 use Rattle.gp_head.specs.Lines.{first_line, later_lines, lines, is_empty_line, is_filled_line, has_begun, after_first, field_count, length_to_empty, length_to_end, begun_fields, head_end}
 use Rattle.gp_head.specs.Steps.{after, begins_field}
-
-abbrev pub is_end : State → Bool
-is_end Before = false
-is_end BeforeReturn = false
-is_end First = false
-is_end Start = false
-is_end StartReturn = false
-is_end Inside = false
-is_end End = true
+use Rattle.gp_head.specs.Scans.{is_end}
 
 -- so many bytes on
 abbrev pub later : ℕ → Option ℕ → Option ℕ

@@ -8,6 +8,7 @@
 //! `proofs/ByteClasses.antt` that the classes of bytes of `httparse` and `http_header` are the same.
 #![tactic(auto)]
 
+mod law;
 mod parse;
 mod read;
 mod scan;
@@ -16,7 +17,8 @@ mod target;
 mod tests;
 mod write;
 
-pub use read::{HeadRead, read_request, read_response};
+pub use law::head_law;
+pub use read::{HeadRead, HeadScan, read_request, read_response};
 pub use scan::{MAX_FIELDS, MAX_HEAD};
 pub use target::{TargetFault, split_target};
 pub use write::{write_request, write_response};

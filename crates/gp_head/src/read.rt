@@ -1,10 +1,13 @@
-ghost use Rattle.std.specs.Prelude.{List, ℕ, ◌++◌};
+ghost use Rattle.std.specs.Prelude.{◌≡◌, []};
+ghost use Rattle.gp_head.specs.Lines.{extent_of};
+ghost use Rattle.gp_head.specs.Scans.{scan_of, HasSeen};
 ghost use Rattle.gp_head.specs.Heads.{IsRead, IsRequestText, IsResponseText, IsSettled};
 
 use crate::parse::{Refusal, request_of, response_of};
-use crate::scan::{Extent, extent_of};
+use crate::scan::{Extent, Scan};
 use gp_plain::{Request, Response};
 use std::alloc::Global;
+use std::marker::Model;
 
 /// What stands at the front of the bytes that have come. The cases are tried in the order `TooMany`, `TooLong`,
 /// `More`, `Bad`, `Whole`.
@@ -30,7 +33,78 @@ pub fn read_request(alloc: Global, bytes: &[u8]) -> HeadRead<Request>
     ensures read { IsRead IsRequestText bytes.now result }
     ensures settled { IsSettled IsRequestText bytes.now result }
 {
-    match extent_of(bytes) {
+    HeadScan::new().read_request(alloc, bytes)
+}
+
+/// Reads the head of a response (RFC 9112, section 4), as `read_request` does. The reason may be empty.
+pub fn read_response(alloc: Global, bytes: &[u8]) -> HeadRead<Response>
+    ensures read { IsRead IsResponseText bytes.now result }
+    ensures settled { IsSettled IsResponseText bytes.now result }
+{
+    HeadScan::new().read_response(alloc, bytes)
+}
+
+/// Reads a head whose bytes come in pieces, and looks at each byte once.
+///
+/// Contracts see how far it was scanned: a scan that has seen a text is `scan_of` of it.
+#[derive(Drop)]
+pub struct HeadScan {
+    scan: Scan,
+}
+
+impl Model for HeadScan {
+    ghost use Rattle.gp_head.specs.declared.scan.Scan.{Scan};
+
+    ghost Value = { Scan };
+
+    ghost use Rattle.gp_head.specs.Scans.{IsSound};
+
+    ghost view = { λ s. s.scan };
+
+    ghost invariant = { λ s. IsSound s.scan };
+}
+
+impl HeadScan {
+    /// A scan that has seen nothing. It takes no memory.
+    pub fn new() -> HeadScan
+        ensures { result ≡ scan_of [] }
+    {
+        HeadScan {
+            scan: Scan::opening(),
+        }
+    }
+
+    /// What `read_request` answers for all bytes that have come, of which this scan has seen the first. It looks at
+    /// those alone that it hasn't seen, and parses the head once its end is there.
+    pub fn read_request(&mut self, alloc: Global, bytes: &[u8]) -> HeadRead<Request>
+        requires { HasSeen self.old bytes.now }
+        ensures read { IsRead IsRequestText bytes.now result }
+        ensures settled { IsSettled IsRequestText bytes.now result }
+        ensures scan { self.new ≡ scan_of bytes.now }
+    {
+        let extent = self.scan.extent_of(bytes);
+        request_within(alloc, bytes, extent)
+    }
+
+    /// What `read_response` answers for all bytes that have come, as `read_request` has it.
+    pub fn read_response(&mut self, alloc: Global, bytes: &[u8]) -> HeadRead<Response>
+        requires { HasSeen self.old bytes.now }
+        ensures read { IsRead IsResponseText bytes.now result }
+        ensures settled { IsSettled IsResponseText bytes.now result }
+        ensures scan { self.new ≡ scan_of bytes.now }
+    {
+        let extent = self.scan.extent_of(bytes);
+        response_within(alloc, bytes, extent)
+    }
+}
+
+/// The request of a head that reaches so far.
+fn request_within(alloc: Global, bytes: &[u8], extent: Extent) -> HeadRead<Request>
+    requires { extent ≡ extent_of bytes.now }
+    ensures read { IsRead IsRequestText bytes.now result }
+    ensures settled { IsSettled IsRequestText bytes.now result }
+{
+    match extent {
         Extent::TooMany => HeadRead::TooMany,
         Extent::TooLong => HeadRead::TooLong,
         Extent::More => HeadRead::More,
@@ -42,12 +116,13 @@ pub fn read_request(alloc: Global, bytes: &[u8]) -> HeadRead<Request>
     }
 }
 
-/// Reads the head of a response (RFC 9112, section 4), as `read_request` does. The reason may be empty.
-pub fn read_response(alloc: Global, bytes: &[u8]) -> HeadRead<Response>
+/// The response of a head that reaches so far.
+fn response_within(alloc: Global, bytes: &[u8], extent: Extent) -> HeadRead<Response>
+    requires { extent ≡ extent_of bytes.now }
     ensures read { IsRead IsResponseText bytes.now result }
     ensures settled { IsSettled IsResponseText bytes.now result }
 {
-    match extent_of(bytes) {
+    match extent {
         Extent::TooMany => HeadRead::TooMany,
         Extent::TooLong => HeadRead::TooLong,
         Extent::More => HeadRead::More,

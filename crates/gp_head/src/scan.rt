@@ -1,6 +1,7 @@
-ghost use Rattle.std.specs.Prelude.{◌≡◌};
+ghost use Rattle.std.specs.Prelude.{◌≡◌, false};
 ghost use Rattle.gp_head.specs.Lines.{extent_of};
 ghost use Rattle.gp_head.specs.Steps.{after, begins_field};
+ghost use Rattle.gp_head.specs.Scans.{opening, moved, after_all, scan_of, is_settled, extent_told, IsSound, HasSeen};
 
 /// The most bytes of a head, the empty lines before it and its last line among them.
 pub const MAX_HEAD: usize = 16384;
@@ -72,28 +73,90 @@ impl State {
     }
 }
 
-/// How far a head reaches in the bytes. It looks at each byte once, and at no more than `MAX_HEAD`.
-pub(crate) fn extent_of(bytes: &[u8]) -> Extent
-    ensures { result ≡ extent_of bytes.now }
-{
-    let front = &bytes[..MAX_HEAD.min(bytes.len())];
-    let mut state = State::Before;
-    let mut fields = 0;
-    for (place, byte) in front.iter().enumerate() {
-        if state.begins_field(*byte) {
-            if fields == MAX_FIELDS {
-                return Extent::TooMany;
-            }
-            fields += 1;
-        }
-        state = state.after(*byte);
-        if let State::End = state {
-            return Extent::Ends(place + 1);
+/// How far a head was scanned.
+#[derive(Drop)]
+pub(crate) struct Scan {
+    /// How many bytes were looked at: all that have come, up to the one that settles the answer.
+    seen: usize,
+    /// How many field lines have begun. One more than a head may have settles the answer.
+    fields: usize,
+    /// Where the next byte stands.
+    state: State,
+}
+
+impl Scan {
+    /// A head of which nothing has come.
+    pub(crate) fn opening() -> Scan
+        ensures opening { result ≡ opening }
+        ensures sound { IsSound result }
+    {
+        Scan {
+            seen: 0,
+            fields: 0,
+            state: State::Before,
         }
     }
-    if bytes.len() < MAX_HEAD {
-        Extent::More
-    } else {
-        Extent::TooLong
+
+    /// How far the head reaches in all bytes that have come. It looks at those alone that it hasn't seen, and at no
+    /// more than `MAX_HEAD` in all.
+    pub(crate) fn extent_of(&mut self, bytes: &[u8]) -> Extent
+        requires sound { IsSound self.old }
+        requires seen { HasSeen self.old bytes.now }
+        ensures extent { result ≡ extent_of bytes.now }
+        ensures scan { self.new ≡ scan_of bytes.now }
+        ensures sound { IsSound self.new }
+    {
+        self.take(&bytes[self.seen..]);
+        self.told()
+    }
+
+    /// Looks at bytes, up to the one that settles the answer.
+    fn take(&mut self, bytes: &[u8])
+        requires { IsSound self.old }
+        ensures scan { self.new ≡ after_all bytes.now self.old }
+        ensures sound { IsSound self.new }
+    {
+        for byte in bytes {
+            if self.is_settled() {
+                return;
+            }
+            self.step(*byte);
+        }
+    }
+
+    /// Looks at one more byte.
+    fn step(&mut self, byte: u8)
+        requires sound { IsSound self.old }
+        requires open { is_settled self.old ≡ false }
+        ensures scan { self.new ≡ moved self.old byte }
+        ensures sound { IsSound self.new }
+    {
+        if self.state.begins_field(byte) {
+            self.fields += 1;
+        }
+        self.seen += 1;
+        self.state = self.state.after(byte);
+    }
+
+    /// Whether no byte that follows changes the answer.
+    fn is_settled(&self) -> bool
+        ensures { result ≡ is_settled self.now }
+    {
+        matches!(self.state, State::End) || self.fields > MAX_FIELDS || self.seen == MAX_HEAD
+    }
+
+    /// How far the head reaches in what was seen.
+    fn told(&self) -> Extent
+        ensures { result ≡ extent_told self.now }
+    {
+        if self.fields > MAX_FIELDS {
+            Extent::TooMany
+        } else if let State::End = self.state {
+            Extent::Ends(self.seen)
+        } else if self.seen == MAX_HEAD {
+            Extent::TooLong
+        } else {
+            Extent::More
+        }
     }
 }

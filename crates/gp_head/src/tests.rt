@@ -271,3 +271,31 @@ fn splits_targets(rt: HostRuntime) -> Result<(), Fail> {
     }
     Ok(())
 }
+
+/// At how many bytes a head that comes byte by byte is answered, or none where it isn't.
+fn answered_at(alloc: Global, bytes: &[u8]) -> Option<usize> {
+    let mut scan = HeadScan::new();
+    for place in 0..bytes.len() {
+        match scan.read_request(alloc, &bytes[..place + 1]) {
+            HeadRead::More => {}
+            _ => return Some(place + 1),
+        }
+    }
+    None
+}
+
+#[test]
+fn reads_byte_by_byte(rt: HostRuntime) -> Result<(), Fail> {
+    let alloc = rt.alloc();
+    let rows: [(&[u8], Option<usize>); 4] = [
+        (b"\r\n\nGET / HTTP/1.1\r\nHost: a\r\n\r\nGET", Some(30)),
+        (b"GET / HTTP/1.1\n\nbody", Some(16)),
+        (b"GET / HTTP/1.1\r\nHost : a\r\n\r\n", Some(28)),
+        (b"GET / HTTP/1.1\r\nHost: a\r\n\r", None),
+    ];
+    for (bytes, wanted) in rows {
+        assert_eq!(rt; answered_at(alloc, bytes), wanted);
+    }
+    head_law();
+    Ok(())
+}

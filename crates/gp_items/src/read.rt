@@ -1,5 +1,7 @@
-ghost use Rattle.std.specs.Prelude.{◌≡◌, ◌≤◌, MatchResult, Ok, map, length, codes, option_map, option_and_then};
+ghost use Rattle.std.specs.Prelude.{◌≡◌, ◌≤◌, All, IfOk, MatchResult, Ok, true, map, length, codes, option_map, option_and_then};
 ghost use Rattle.serde_json.specs.View.{view};
+ghost use Rattle.gp_plain.specs.declared.event.Event.TheVariants.{Publish};
+ghost use Rattle.gp_plain.specs.Fit.{fits};
 ghost use Rattle.gp_json.specs.Members.{as_elements, member_of};
 ghost use Rattle.gp_items.specs.Faults.{IsItemsFaultOf};
 ghost use Rattle.gp_items.specs.Items.{AreItemsOf, IsItemsFault, items_in as the_items_in, items_from};
@@ -18,9 +20,10 @@ const MAX_ITEMS: usize = 1_000;
 /// optional `id` and `prev-id`, and optional `formats`, an object in which `http-response`, `http-stream` and
 /// `ws-message` may stand. A member that is null counts as absent, and members of other names are ignored. The first
 /// item with a fault is refused by its first: its members are tried in the order above, and within a format the forms
-/// of its members, then base64, then the length of its content.
+/// of its members, then base64, then the length of its content. Each item that is read fits.
 pub fn read_items(alloc: Global, bytes: &[u8]) -> Result<Items, ItemsFault>
-    ensures { MatchResult result (AreItemsOf bytes.now) (IsItemsFault bytes.now) }
+    ensures read { MatchResult result (AreItemsOf bytes.now) (IsItemsFault bytes.now) }
+    ensures fit { IfOk result (All (λ item. fits (Publish item) ≡ true)) }
 {
     match read_object(alloc, bytes) {
         Ok(value) => items_in(alloc, &value),

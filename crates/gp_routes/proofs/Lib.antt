@@ -1,5 +1,6 @@
 pub mod LineLemmas
 pub mod WordLemmas
 pub mod PartLemmas
+pub mod RuleLemmas
 pub mod FileLemmas
 pub mod PickLemmas

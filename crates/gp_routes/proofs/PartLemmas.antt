@@ -7,7 +7,7 @@ use Rattle.std.proofs.lemmas.Int.Digits.{digits_value_more}
 use Rattle.gp_routes.specs.Parts.{is_numeral, port_of}
 use Rattle.std.specs.Str.Parse.{digits_value, digits_value_after}
 
-value_grows : (n : ℕ) (ds : List ℕ) → n ≤ digits_value_after 10 n ds
+pub value_grows : (n : ℕ) (ds : List ℕ) → n ≤ digits_value_after 10 n ds
 value_grows n [] = omega arith
 value_grows n (d ∷ ds) = omega (arith, value_grows (n * 10 + digit_value d) ds)
 
@@ -21,7 +21,7 @@ front_value ds i =
     omega (arith, value_grows (digits_value 10 (take i ds)) (drop i ds), value_of_both 0 (take i ds) (drop i ds), ap (digits_value 10) (take-append-drop i ds))
 
 -- the digit is this number
-digit_is : (d : ℕ) → is_ascii_digit d ≡ true → digit_value d ≡ d - 48
+pub digit_is : (d : ℕ) → is_ascii_digit d ≡ true → digit_value d ≡ d - 48
 digit_is d digit = grind (arith, nat_tests)
 
 -- one more digit

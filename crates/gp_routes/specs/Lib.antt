@@ -1,4 +1,5 @@
 pub mod Words
 pub mod Parts
+pub mod Rules
 pub mod Files
 pub mod Picks

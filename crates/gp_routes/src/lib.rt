@@ -5,6 +5,7 @@
 //! a file with its faults, and `specs/Picks.antt` says which line a request gets.
 #![tactic(auto)]
 
+mod crossing;
 mod file;
 mod part;
 mod pick;

@@ -1,6 +1,7 @@
-ghost use Rattle.std.specs.Prelude.{◌≡◌, ◌-◌, ◌≤◌, length, nat_eq, nat_lt, not, option_map};
+ghost use Rattle.std.specs.Prelude.{◌≡◌, ◌-◌, ◌≤◌, IfSome, length, nat_eq, nat_lt, not, option_map};
 ghost use Rattle.std.specs.List.{list_all, list_any, suffix_len};
 ghost use Rattle.std.specs.Char.{is_ascii_digit};
+ghost use Rattle.gp_routes.specs.Rules.{IsRoute};
 ghost use Rattle.gp_routes.specs.Picks.{picked, is_met, host_name};
 
 use crate::route::{Condition, Route, Routes};
@@ -8,9 +9,11 @@ use crate::route::{Condition, Route, Routes};
 impl Routes {
     /// The route of the first line that matches, or nothing exactly where none does. `host` is the value of the
     /// request's first `host` field as it came, or no byte where there is none; its `:port` isn't compared, and either
-    /// case of ASCII is the same. `path` is path and query. It takes no memory, and looks at each line at most once.
+    /// case of ASCII is the same. `path` is path and query. The route has a host by name and a port that isn't 0. It takes
+    /// no memory, and looks at each line at most once.
     pub fn pick(&self, host: &[u8], path: &[u8]) -> Option<&Route>
-        ensures { option_map (λ route. route.now) result ≡ picked host.now path.now self.now }
+        ensures picked { option_map (λ route. route.now) result ≡ picked host.now path.now self.now }
+        ensures route { IfSome result (λ route. IsRoute route.now) }
     {
         let name = host_name(host);
         for rule in self.rules.as_slice() {

@@ -25,7 +25,8 @@ pub(crate) struct Rule {
     pub route: Route,
 }
 
-/// The lines of a routes file, in order. Contracts see the list of them.
+/// The lines of a routes file, in order. Contracts see the list of them. Each has a route to a host by name and a port
+/// that isn't 0.
 #[derive(Drop)]
 pub struct Routes {
     pub(crate) rules: List<Rule>,
@@ -37,7 +38,11 @@ impl Model for Routes {
 
     ghost Value = { List Rule };
 
+    ghost use Rattle.gp_routes.specs.Rules.{AreRules};
+
     ghost view = { λ routes. routes.rules };
+
+    ghost invariant = { λ routes. AreRules routes.rules };
 }
 
 /// What is wrong with a line. The faults are tried in this order.

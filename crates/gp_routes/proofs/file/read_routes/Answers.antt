@@ -1,5 +1,11 @@
+use Rattle.std.proofs.Common.{subst, sym, ◌∙◌}
+use Rattle.gp_routes.specs.Rules.{AreRules}
 use Rattle.gp_routes.proofs.FileLemmas.{read_more}
+use Rattle.gp_routes.proofs.RuleLemmas.{are_rules}
 use Rattle.gp_routes.proofs.file.read_routes.Goals as goal
+
+pub invariant_of-result : goal.invariant_of-result
+invariant_of-result c = subst AreRules (sym (c.from_vec.ensures ∙ c.loop-rest.invariant.rules_are)) (are_rules c.loop-rest.invariant.before)
 
 pub loop-rest-preserved : goal.loop-rest-preserved
 loop-rest-preserved c =

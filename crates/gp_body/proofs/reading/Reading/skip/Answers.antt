@@ -1,4 +1,4 @@
-use Rattle.std.proofs.Common.{◌≡◌, true, false, refl, sym, ap, ◌∙◌, arith}
+use Rattle.std.proofs.Common.{◌≡◌, true, false, refl, sym, ap, ◌∙◌, arith, below_more}
 use Rattle.gp_body.specs.Steps.{is_framing}
 use Rattle.gp_body.specs.Readings.{after_all, content_from, moved_or_refused}
 use Rattle.gp_body.proofs.ReadingLemmas.{one_more, one_more_none, moved_framing, refused_from, has_moved}
@@ -6,7 +6,7 @@ use Rattle.gp_body.proofs.reading.Reading.skip.Goals as goal
 
 pub loop-taken-init : goal.loop-taken-init
 unfolding after_all content_from
-loop-taken-init c = record { reading = refl; no_content = refl; goes_on = c.requires.«open»; sound = c.requires.sound }
+loop-taken-init c = record { reading = refl; no_content = refl; goes_on = c.requires.«open»; waits = λ k less. absurd (omega arith); sound = c.requires.sound }
 
 pub returns-then-not-is_framing : goal.returns-then-not-is_framing
 returns-then-not-is_framing c =
@@ -17,6 +17,7 @@ returns-then-not-is_framing c =
         reading = c.loop-taken.invariant.reading;
         no_content = c.loop-taken.invariant.no_content;
         goes_on = c.loop-taken.invariant.goes_on;
+        waits = c.loop-taken.invariant.waits;
         stops = λ inside. stopped;
         moves = λ framing some. has_moved c.args.bytes.now c.loop-taken.taken c.args.self.now c.loop-taken.self c.loop-taken.invariant.reading stopped framing;
       };
@@ -42,5 +43,6 @@ loop-taken-preserved c =
       reading = sym (moved ∙ next);
       no_content = one_more_none c.args.bytes.now c.loop-taken.taken c.args.self.now now c.loop-taken-test.true c.loop-taken.invariant.reading c.loop-taken.invariant.no_content c.loop-taken.invariant.goes_on framing;
       goes_on = c.loop-taken.invariant.goes_on;
+      waits = below_more _ _ c.loop-taken.invariant.waits (ap (λ r. is_framing r.state) (sym c.loop-taken.invariant.reading) ∙ framing);
       sound = record { state = c.in-Some.ensures.sound; within = c.loop-taken.invariant.sound.within };
     }
