@@ -1,13 +1,13 @@
 use crate::{Registry, Status, run};
 use gp_outside::{MemFiles, MemOut, MemWorld, Turn, Turns};
-use gp_plain::{Body, List};
+use gp_plain::Body;
 use std::alloc::{AllocError, Global};
 use std::test::Fail;
 
 fn turns(alloc: Global, turn: Option<Turn>) -> Result<Turns, AllocError> {
     match turn {
-        Some(turn) => Ok(List::from_vec(Vec::from_slice(alloc, &[turn])?)),
-        None => Ok(List::new(alloc)),
+        Some(turn) => Ok(Turns::from_vec(Vec::from_slice(alloc, &[turn])?)),
+        None => Ok(Turns::new(alloc)),
     }
 }
 
