@@ -151,7 +151,9 @@ fn sixty_four_misses_end_a_hold_without_a_link(rt: HostRuntime) -> Result<(), Fa
 
 #[test]
 fn second_spellings_are_bad_lines(rt: HostRuntime) -> Result<(), Fail> {
-    let rows: [(&[u8], u32); 9] = [
+    let rows: [(&[u8], u32); 11] = [
+        (b"take 18446744073709551616 0\n", 1),
+        (b"publish a%3Bb b a X\nbad\n", 1),
         (b"publish news b a X", 1),
         (b"publish news b a %2d\n", 1),
         (b"publish news b a %41\n", 1),
