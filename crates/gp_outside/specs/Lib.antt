@@ -1,3 +1,12 @@
 pub mod Counts
 pub mod Devices
+pub mod Links
+pub mod Talks
+pub mod Dials
+pub mod Clocks
+pub mod Turning
 pub mod Memory
+pub mod MemLinks
+pub mod MemDials
+pub mod Kept
+pub mod MemClocks

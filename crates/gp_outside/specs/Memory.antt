@@ -1,5 +1,5 @@
 -- Devices in memory: each call takes the next turn of a list.
-use Rattle.std.specs.Prelude.{ℕ, ◌≡◌, ◌-◌, ◌<◌, ◌≤◌, min, max, nat_le, Bool, true, false, ◌&&◌, cond, List, ◌++◌, length, take, drop, slice_get, Option, Some, None}
+use Rattle.std.specs.Prelude.{ℕ, ◌≡◌, ◌-◌, ◌<◌, ◌≤◌, nat_le, Bool, true, false, ◌&&◌, cond, List, ◌++◌, length, take, drop, slice_get, Option, Some, None}
 use Rattle.gp_plain.specs.Names.{same_id}
 use Rattle.gp_outside.specs.Counts.{counted}
 use Rattle.gp_outside.specs.Devices.{SinkTells}
@@ -7,8 +7,8 @@ use Rattle.gp_outside.specs.declared.device.FileRead.{FileRead}
 use Rattle.gp_outside.specs.declared.device.FileRead.TheVariants.{Took, TooLong, Failed, NoMemory}
 use Rattle.gp_outside.specs.declared.device.Written.{Written}
 use Rattle.gp_outside.specs.declared.device.Written.TheVariants.{Took as WriteTook, Failed as WriteFailed}
+use Rattle.gp_outside.specs.Turning.{is_ready, let_through}
 use Rattle.gp_outside.specs.declared.turn.Turn.{Turn}
-use Rattle.gp_outside.specs.declared.turn.Turn.TheVariants.{Bytes, Wait, Fail}
 
 -- one file, the turns that are left, and how many faults there were
 pub record OneFile : Type 0 where
@@ -16,13 +16,6 @@ pub record OneFile : Type 0 where
   pub content : List ℕ
   pub reads : List Turn
   pub faults : ℕ
-
--- after the list, and at each turn that doesn't fail, a file can be read
-abbrev pub is_ready : Option Turn → Bool
-is_ready None = true
-is_ready (Some Wait) = true
-is_ready (Some Fail) = false
-is_ready (Some (Bytes most)) = true
 
 -- the file is read where it has this path and the turn doesn't fail
 abbrev pub can_read : OneFile → List ℕ → Bool
@@ -36,8 +29,8 @@ IsFileAnswer can content Failed = can ≡ false
 IsFileAnswer can content NoMemory = (can ≡ true) × (length content ≤ 16777216)
 
 -- a read takes its turn, and a failed one is a fault
-abbrev pub after_read : OneFile → Bool → OneFile
-after_read file can = record {
+abbrev pub after_file_read : OneFile → Bool → OneFile
+after_file_read file can = record {
   path = file.path;
   content = file.content;
   reads = drop 1 file.reads;
@@ -55,15 +48,7 @@ pub record Sink : Type 0 where
   pub writes : List Turn
   pub faults : ℕ
 
--- how many of so many bytes the turn lets a write take, or none where it fails. A sink can't answer that it isn't
--- ready, so a turn that waits lets it take all; so it is after the list
-abbrev pub let_through : Option Turn → ℕ → Option ℕ
-let_through None all = Some all
-let_through (Some Wait) all = Some all
-let_through (Some Fail) all = None
-let_through (Some (Bytes most)) all = Some (min (max most 1) all)
-
--- as many, where there is room for them
+-- so many bytes, where there is room for them
 abbrev pub roomed : ℕ → Option ℕ → Option ℕ
 roomed room None = None
 roomed room (Some n) = cond (nat_le n room) (Some n) None

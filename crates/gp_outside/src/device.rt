@@ -1,6 +1,5 @@
 ghost use Rattle.std.specs.Prelude.{ℕ, ◌≡◌, ◌<◌, ◌≤◌, List, Option, Some, length};
 ghost use Rattle.std.specs.Borrow.{Lends, sem};
-ghost use Rattle.gp_outside.specs.Counts.{Rose};
 ghost use Rattle.gp_outside.specs.Devices.{FailsWith, IsReadOf, IsWrite};
 
 use gp_plain::Body;
@@ -25,11 +24,12 @@ pub trait Files: Drop {
     /// How many faults there were. It never falls, and stands still at 2^64 - 1.
     ghost faults: { Self → ℕ };
 
-    /// Reads a whole file of at most 16,777,216 bytes. It leaves what is told of the files as it was.
+    /// Reads a whole file of at most 16,777,216 bytes. It leaves what is told of the files as it was, and the count of
+    /// faults too where it doesn't fail.
     fn read(&mut self, path: &str) -> FileRead
         ensures same { content self.new ≡ content self.old }
         ensures later { faults self.old ≤ faults self.new }
-        ensures failed { FailsWith result (Rose (faults self.old) (faults self.new)) }
+        ensures faulted { FailsWith result (faults self.old) (faults self.new) }
         ensures told { (bytes : List ℕ) → content self.old path.now ≡ Some bytes → IsReadOf bytes result };
 }
 

@@ -1,7 +1,6 @@
 ghost use Rattle.std.specs.Prelude.{ℕ, ◌≡◌, ◌≤◌, List, Some};
-ghost use Rattle.gp_outside.specs.Counts.{Rose};
 ghost use Rattle.gp_outside.specs.Devices.{FailsWith, IsReadOf};
-ghost use Rattle.gp_outside.specs.Memory.{IsFileAnswer, after_read, can_read, told_content};
+ghost use Rattle.gp_outside.specs.Memory.{IsFileAnswer, after_file_read, can_read, told_content};
 
 use crate::device::{FileRead, Files};
 use crate::turn::{Turns, is_ready};
@@ -53,10 +52,10 @@ impl Files for MemFiles {
     fn read(&mut self, path: &str) -> FileRead
         ensures same { told_content self.new ≡ told_content self.old }
         ensures later { self.old.faults ≤ self.new.faults }
-        ensures failed { FailsWith result (Rose self.old.faults self.new.faults) }
+        ensures faulted { FailsWith result self.old.faults self.new.faults }
         ensures told { (bytes : List ℕ) → told_content self.old path.now ≡ Some bytes → IsReadOf bytes result }
         ensures answer { IsFileAnswer (can_read self.old path.now) self.old.content result }
-        ensures after { self.new ≡ after_read self.old (can_read self.old path.now) }
+        ensures after { self.new ≡ after_file_read self.old (can_read self.old path.now) }
     {
         let turn = self.reads.take_first();
         let is_here = path.as_bytes() == self.path.bytes();

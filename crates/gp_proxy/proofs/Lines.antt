@@ -1,10 +1,8 @@
 -- Lines, and the scripts that they make.
 use Rattle.std.proofs.Common.{◌≡◌, ◌≢◌, ◌==◌, true, false, eqb-true, ℕ, suc, ◌+◌, ◌-◌, ◌^◌, ◌<◌, min, List, [], ◌∷◌, ◌++◌, length, take, drop, get_or, refl, sym, ap, ◌∙◌, subst, arith, add-one, drop-cons, length-append}
-use Rattle.std.specs.List.{AllByRecursion}
 use Rattle.std.proofs.lemmas.List.{take_more, take-append-drop}
-use Rattle.std.proofs.lemmas.List.Elements.{recursion_from_All}
 use Rattle.gp_plain.specs.declared.event.Event.{Event}
-use Rattle.gp_script.specs.Lines.{IsEvent, IsInGrammar, Spells}
+use Rattle.gp_script.specs.Lines.{IsInGrammar, Spells}
 use Rattle.gp_proxy.specs.Scripts.{IsOneLine, BeginsWith, Leaves, IsScript, IsOnlyScript, IsBad, IsBadLine}
 use Rattle.gp_proxy.specs.Reads.{IsLine, Reads}
 
@@ -44,28 +42,28 @@ same_line (a ∷ as') (b ∷ bs) x y p q e =
 
 pub leaves_of : (bytes : List ℕ) (events : List Event) (rest : List ℕ) → Reads bytes events rest → Leaves bytes events rest
 leaves_of bytes [] rest r = r
-leaves_of bytes (e ∷ es) rest r = (r.0, r.1, r.2, r.3.spells, leaves_of r.1 es rest r.4)
+leaves_of bytes (e ∷ es) rest r = (r.0, r.1, r.2, r.3.made, r.3.spells, leaves_of r.1 es rest r.4)
 
-only_rec : (bytes : List ℕ) (events others : List Event) → Reads bytes events [] → AllByRecursion IsEvent others → IsScript bytes others → others ≡ events
-only_rec bytes [] [] r made s = refl
-only_rec bytes [] (o ∷ os) r made s = begins_none s.0 s.1 (sym r ∙ s.2.whole)
-only_rec bytes (e ∷ es) [] r made s = begins_none r.0 r.1 (sym s ∙ r.2.whole)
-only_rec bytes (e ∷ es) (o ∷ os) r made s =
+only_rec : (bytes : List ℕ) (events others : List Event) → Reads bytes events [] → IsScript bytes others → others ≡ events
+only_rec bytes [] [] r s = refl
+only_rec bytes [] (o ∷ os) r s = begins_none s.0 s.1 (sym r ∙ s.2.whole)
+only_rec bytes (e ∷ es) [] r s = begins_none r.0 r.1 (sym s ∙ r.2.whole)
+only_rec bytes (e ∷ es) (o ∷ os) r s =
     let same = same_line s.0 r.0 s.1 r.1 s.2.one r.2.one (sym s.2.whole ∙ r.2.whole) in
-    let head : o ≡ e = r.3.only o made.0 (subst (λ l. Spells l o) same.0 s.3) in
-    let tail : os ≡ es = only_rec r.1 es os r.4 made.1 (subst (λ n. IsScript n os) same.1 s.4) in
+    let head : o ≡ e = r.3.only o s.3 (subst (λ l. Spells l o) same.0 s.4) in
+    let tail : os ≡ es = only_rec r.1 es os r.4 (subst (λ n. IsScript n os) same.1 s.5) in
     cc (head, tail)
 
 pub only_of : (bytes : List ℕ) (events : List Event) → Reads bytes events [] → IsOnlyScript bytes events
-only_of bytes events r = λ others made s. only_rec bytes events others r (recursion_from_All IsEvent others made) s
+only_of bytes events r = λ others s. only_rec bytes events others r s
 
-none_rec : (bytes : List ℕ) (events others : List Event) (rest : List ℕ) → Reads bytes events rest → IsBad rest → AllByRecursion IsEvent others → IsScript bytes others → ⊥
-none_rec bytes [] [] rest r bad made s = bad.more (sym r ∙ s)
-none_rec bytes [] (o ∷ os) rest r bad made s = bad.bad s.0 s.1 (record { whole = sym r ∙ s.2.whole; one = s.2.one }) (o, made.0, s.3)
-none_rec bytes (e ∷ es) [] rest r bad made s = begins_none r.0 r.1 (sym s ∙ r.2.whole)
-none_rec bytes (e ∷ es) (o ∷ os) rest r bad made s =
+none_rec : (bytes : List ℕ) (events others : List Event) (rest : List ℕ) → Reads bytes events rest → IsBad rest → IsScript bytes others → ⊥
+none_rec bytes [] [] rest r bad s = bad.more (sym r ∙ s)
+none_rec bytes [] (o ∷ os) rest r bad s = bad.bad s.0 s.1 (record { whole = sym r ∙ s.2.whole; one = s.2.one }) (o, s.3, s.4)
+none_rec bytes (e ∷ es) [] rest r bad s = begins_none r.0 r.1 (sym s ∙ r.2.whole)
+none_rec bytes (e ∷ es) (o ∷ os) rest r bad s =
     let same = same_line s.0 r.0 s.1 r.1 s.2.one r.2.one (sym s.2.whole ∙ r.2.whole) in
-    none_rec r.1 es os rest r.4 bad made.1 (subst (λ n. IsScript n os) same.1 s.4)
+    none_rec r.1 es os rest r.4 bad (subst (λ n. IsScript n os) same.1 s.5)
 
 pub bad_line_of : (bytes : List ℕ) (events : List Event) (rest : List ℕ) (number : ℕ) → Reads bytes events rest → IsBad rest → number ≡ min (length events + 1) (2 ^ 32 - 1) → IsBadLine bytes number
 bad_line_of bytes events rest number r bad told = record {
@@ -74,7 +72,7 @@ bad_line_of bytes events rest number r bad told = record {
   good = leaves_of bytes events rest r;
   bad = bad;
   told = told;
-  none = λ others made s. none_rec bytes events others rest r bad (recursion_from_All IsEvent others made) s;
+  none = λ others s. none_rec bytes events others rest r bad s;
 }
 
 pub reads-push : (bytes : List ℕ) (events : List Event) (rest line next : List ℕ) (event : Event) → Reads bytes events rest → BeginsWith rest line next → IsLine line event → Reads bytes (events ++ event ∷ []) next

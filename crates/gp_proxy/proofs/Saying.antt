@@ -1,5 +1,5 @@
 -- What the parts of a replay say together.
-use Rattle.std.proofs.Common.{◌≡◌, inl, inr, ℕ, List, [], take, Option, Some, None, refl, sym, ap, ◌∙◌, subst}
+use Rattle.std.proofs.Common.{◌≡◌, inl, inr, ℕ, ◌<◌, List, [], length, take, Option, Some, None, refl, sym, ap, ◌∙◌, subst}
 use mathlib.Core.List.{IsPrefix}
 use Rattle.gp_plain.specs.declared.event.Event.{Event}
 use Rattle.gp_plain.specs.Standing.{Standing, StandsFor}
@@ -8,31 +8,28 @@ use Rattle.gp_outside.specs.Counts.{grown}
 use Rattle.gp_outside.specs.Devices.{SinkTells, WroteAll, WrotePart}
 use Rattle.gp_proxy.specs.Scripts.{entries_of}
 use Rattle.gp_proxy.specs.Outputs.{output}
-use Rattle.gp_proxy.specs.Loads.{Load, IsLoaded, IsNotLoaded}
-use Rattle.gp_proxy.specs.Replays.{Play, Says}
+use Rattle.gp_proxy.specs.Loads.{IsLoaded, IsNotLoaded}
+use Rattle.gp_proxy.specs.Replays.{Play, Says, load_of}
 use Rattle.gp_proxy.specs.Runs.{RunSays}
 use Rattle.gp_proxy.specs.declared.status.Status.{Status}
 use Rattle.gp_proxy.specs.declared.status.Status.TheVariants.{Done, Usage, FileFault, TooLong, BadLine, SinkFault, ListenFault, NoMemory}
 
-abbrev load_of : Play → Load
-load_of play = record { content = play.content; faults = play.file_faults; faults_after = play.file_faults_after }
-
 -- a file that isn't loaded
-pub not_loaded : (play : Play) (status : Status) → IsNotLoaded (load_of play) status → play.sink_after.written ≡ play.sink.written → StandsFor play.stands [] → Says status play
-not_loaded play FileFault said written stands = record { untouched = record { written = written; stands = stands }; fault = said }
-not_loaded play TooLong said written stands = record { untouched = record { written = written; stands = stands }; long = said }
-not_loaded play (BadLine line) said written stands = record { untouched = record { written = written; stands = stands }; bad = said }
-not_loaded play NoMemory said written stands = inl (record { written = written; stands = stands })
-not_loaded play Done said written stands = absurd said
-not_loaded play (Usage place) said written stands = absurd said
-not_loaded play SinkFault said written stands = absurd said
-not_loaded play ListenFault said written stands = absurd said
+pub not_loaded : (play : Play) (status : Status) → IsNotLoaded (load_of play) status → play.sink_after ≡ play.sink → StandsFor play.stands [] → Says status play
+not_loaded play FileFault said sink stands = record { untouched = record { sink = sink; stands = stands }; fault = said }
+not_loaded play TooLong said sink stands = record { untouched = record { sink = sink; stands = stands }; long = said }
+not_loaded play (BadLine line) said sink stands = record { untouched = record { sink = sink; stands = stands }; bad = said }
+not_loaded play NoMemory said sink stands = inl (record { untouched = record { sink = sink; stands = stands }; quiet = said })
+not_loaded play Done said sink stands = absurd said
+not_loaded play (Usage place) said sink stands = absurd said
+not_loaded play SinkFault said sink stands = absurd said
+not_loaded play ListenFault said sink stands = absurd said
 
 -- memory was wanting after the load
-pub stopped : (play : Play) (events : List Event) (status : Status) (count : ℕ) → status ≡ NoMemory → IsLoaded (load_of play) events → play.sink_after.written ≡ play.sink.written
+pub stopped : (play : Play) (events : List Event) (status : Status) (count : ℕ) → status ≡ NoMemory → IsLoaded (load_of play) events → play.sink_after ≡ play.sink
     → StandsFor play.stands (entries_of (take count events)) → Says status play
-stopped play events status count is loaded written stands =
-    let said : Says NoMemory play = inr (events, count, record { script = loaded; written = written; stands = stands }) in
+stopped play events status count is loaded sink stands =
+    let said : Says NoMemory play = inr (events, count, record { script = loaded; sink = sink; stands = stands }) in
     subst (λ (s : Status). Says s play) (sym is) said
 
 pub done : ChainLaw → (play : Play) (events : List Event) (text : List ℕ) → IsLoaded (load_of play) events → text ≡ output events → WroteAll play.sink play.sink_after text → StandsFor play.stands (entries_of events) → Says Done play
@@ -41,6 +38,7 @@ done law play events text loaded is wrote stands = (
   record {
     script = loaded;
     written = wrote.whole ∙ ap (grown play.sink.written) is;
+    quiet = wrote.quiet;
     stands = stands;
     follows = law (entries_of events);
   },
@@ -52,7 +50,7 @@ cut_off law play events text loaded is wrote stands = (
   record {
     script = loaded;
     fault = wrote.rose;
-    written = (wrote.part.0, subst (λ (t : List ℕ). IsPrefix wrote.part.0 t) is wrote.part.1, wrote.part.2);
+    written = (wrote.part.0, subst (λ (t : List ℕ). IsPrefix wrote.part.0 t) is wrote.part.1, subst (λ (t : List ℕ). length wrote.part.0 < length t) is wrote.part.2, wrote.part.3);
     stands = stands;
     follows = law (entries_of events);
   },
@@ -73,5 +71,5 @@ lent status usage content content' before before' after after' was was' now now'
     let five = subst (λ x. Says status (play_at content' before' after' was' x stands)) n four in
     subst (λ u. RunSays u status (play_at content' before' after' was' now' stands)) (sym good) five
 
-pub faulty : (usage : Option ℕ) (place : ℕ) (play : Play) → usage ≡ Some place → play.sink_after.written ≡ play.sink.written → StandsFor play.stands [] → RunSays usage (Usage place) play
-faulty usage place play is written stands = subst (λ u. RunSays u (Usage place) play) (sym is) (refl, record { written = written; stands = stands })
+pub faulty : (usage : Option ℕ) (place : ℕ) (play : Play) → usage ≡ Some place → play.file_faults_after ≡ play.file_faults → play.sink_after ≡ play.sink → StandsFor play.stands [] → RunSays usage (Usage place) play
+faulty usage place play is quiet sink stands = subst (λ u. RunSays u (Usage place) play) (sym is) (refl, record { untouched = record { sink = sink; stands = stands }; quiet = quiet })

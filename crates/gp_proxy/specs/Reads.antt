@@ -6,8 +6,9 @@ use Rattle.gp_proxy.specs.Scripts.{BeginsWith, IsBadLine, IsScript, IsOnlyScript
 use Rattle.gp_proxy.specs.declared.script.ScriptFault.{ScriptFault}
 use Rattle.gp_proxy.specs.declared.script.ScriptFault.TheVariants.{Bad, NoMemory}
 
--- the line spells this event, and no other that a program can make
+-- a program can make this event, and the line spells it, and no other that a program can make
 pub record IsLine (line : List ℕ) (event : Event) : Type 0 where
+  pub made : IsEvent event
   pub spells : Spells line event
   pub only : (other : Event) → IsEvent other → Spells line other → other ≡ event
 

@@ -1,5 +1,5 @@
 -- The events of a script, and its first bad line.
-use Rattle.std.specs.Prelude.{ℕ, ◌≡◌, ◌≢◌, ◌+◌, ◌-◌, ◌^◌, min, List, [], ◌∷◌, ◌++◌, length, map, All}
+use Rattle.std.specs.Prelude.{ℕ, ◌≡◌, ◌≢◌, ◌+◌, ◌-◌, ◌^◌, min, List, [], ◌∷◌, ◌++◌, length, map}
 use Rattle.gp_plain.specs.declared.event.Event.{Event}
 use Rattle.gp_plain.specs.declared.event.Entry.{Entry}
 use Rattle.gp_script.specs.Lines.{IsEvent, IsInGrammar, Spells}
@@ -14,22 +14,22 @@ pub record BeginsWith (bytes line rest : List ℕ) : Type 0 where
   pub whole : bytes ≡ line ++ 10 ∷ rest
   pub one : IsOneLine line
 
--- the bytes are the lines of the events, and then the rest
+-- the bytes are the lines of the events, each of which a program can make, and then the rest
 abbrev pub Leaves : List ℕ → List Event → List ℕ → Type 0
 Leaves bytes [] rest = bytes ≡ rest
-Leaves bytes (event ∷ events) rest = (line : List ℕ) × (next : List ℕ) × BeginsWith bytes line next × Spells line event × Leaves next events rest
+Leaves bytes (event ∷ events) rest = (line : List ℕ) × (next : List ℕ) × BeginsWith bytes line next × IsEvent event × Spells line event × Leaves next events rest
 
 -- a script is the lines of its events, each with its line feed
 abbrev pub IsScript : List ℕ → List Event → Type 0
 IsScript bytes events = Leaves bytes events []
 
--- no other events that a program can make have this script
+-- no other events have this script
 abbrev pub IsOnlyScript : List ℕ → List Event → Type 0
-IsOnlyScript bytes events = (others : List Event) → All IsEvent others → IsScript bytes others → others ≡ events
+IsOnlyScript bytes events = (others : List Event) → IsScript bytes others → others ≡ events
 
 -- the bytes are no script
 abbrev pub IsNoScript : List ℕ → Type 0
-IsNoScript bytes = (events : List Event) → All IsEvent events → IsScript bytes events → ⊥
+IsNoScript bytes = (events : List Event) → IsScript bytes events → ⊥
 
 -- something is left, and it doesn't begin with a line of the grammar; a last line without a line feed is none
 pub record IsBad (rest : List ℕ) : Type 0 where

@@ -1,13 +1,13 @@
 use crate::{Registry, Status, run};
 use gp_outside::{MemFiles, MemOut, MemWorld, Turn, Turns};
-use gp_plain::{Body, List};
+use gp_plain::Body;
 use std::alloc::{AllocError, Global};
 use std::test::Fail;
 
 fn turns(alloc: Global, turn: Option<Turn>) -> Result<Turns, AllocError> {
     match turn {
-        Some(turn) => Ok(List::from_vec(Vec::from_slice(alloc, &[turn])?)),
-        None => Ok(List::new(alloc)),
+        Some(turn) => Ok(Turns::from_vec(Vec::from_slice(alloc, &[turn])?)),
+        None => Ok(Turns::new(alloc)),
     }
 }
 
@@ -151,7 +151,9 @@ fn sixty_four_misses_end_a_hold_without_a_link(rt: HostRuntime) -> Result<(), Fa
 
 #[test]
 fn second_spellings_are_bad_lines(rt: HostRuntime) -> Result<(), Fail> {
-    let rows: [(&[u8], u32); 9] = [
+    let rows: [(&[u8], u32); 11] = [
+        (b"take 18446744073709551616 0\n", 1),
+        (b"publish a%3Bb b a X\nbad\n", 1),
         (b"publish news b a X", 1),
         (b"publish news b a %2d\n", 1),
         (b"publish news b a %41\n", 1),

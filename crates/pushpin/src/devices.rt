@@ -1,8 +1,10 @@
 //! The files and the standard output of the system. They tell no bytes, and count their faults.
-ghost use Rattle.std.specs.Prelude.{◌≡◌, None, refl};
+ghost use Rattle.std.specs.Prelude.{◌≡◌, List, ℕ, None, IfOk, IfSome, refl};
+ghost use Rattle.gp_outside.specs.Devices.{IsReadOf};
 
 use gp_outside::{FileRead, Files, Out, World, Written};
 use gp_plain::Body;
+use std::alloc::Global;
 use std::fs::File;
 use std::io::{self, Read, Write};
 
@@ -16,25 +18,29 @@ pub struct StdFiles<'a> {
     faults: u64,
 }
 
-/// A read of a whole file, or none where it failed.
-fn read_all(rt: &HostRuntime, path: &str) -> io::Result<FileRead> {
-    let mut file = File::open(rt, path)?;
-    let mut content = Vec::new(rt.alloc());
+/// The bytes of a reader to its end, or that they are too many, or that memory is wanting.
+fn read_all<R: Read>(alloc: Global, reader: &mut R) -> io::Result<FileRead>
+    ensures { IfOk result (λ read. IfSome (R.remaining reader.old) (λ (bytes : List ℕ). IsReadOf bytes read)) }
+{
+    let mut content = Vec::new(alloc);
     let mut part = [0u8; 8192];
-    for _turn in 0..u64::MAX {
-        let count = file.read(&mut part)?;
+    while content.len() <= FILE {
+        let count = reader.read(&mut part)?;
         if count == 0 {
-            break;
+            return Ok(FileRead::Took(Body::from_vec(content)));
         }
         match content.extend_from_slice(&part[..count]) {
             Ok(()) => {}
             Err(_) => return Ok(FileRead::NoMemory),
         }
-        if content.len() > FILE {
-            return Ok(FileRead::TooLong);
-        }
     }
-    Ok(FileRead::Took(Body::from_vec(content)))
+    Ok(FileRead::TooLong)
+}
+
+/// A read of a whole file.
+fn read_file(rt: &HostRuntime, path: &str) -> io::Result<FileRead> {
+    let mut file = File::open(rt, path)?;
+    read_all(rt.alloc(), &mut file)
 }
 
 impl Files for StdFiles<'_> {
@@ -43,7 +49,7 @@ impl Files for StdFiles<'_> {
     ghost faults = { λ s. s.faults };
 
     fn read(&mut self, path: &str) -> FileRead {
-        match read_all(self.rt, path) {
+        match read_file(self.rt, path) {
             Ok(FileRead::Took(content)) => FileRead::Took(content),
             Ok(FileRead::TooLong) => FileRead::TooLong,
             Ok(FileRead::NoMemory) => FileRead::NoMemory,
@@ -83,14 +89,16 @@ pub struct Devices<F: Files, O: Out> {
     out: O,
 }
 
+/// A writer, as a sink.
+pub fn sink<W: Write + Drop>(inner: W) -> StdOut<W> {
+    StdOut { inner, faults: 0 }
+}
+
 /// The files of the system, and a writer.
 pub fn over_system<W: Write + Drop>(rt: &HostRuntime, out: W) -> Devices<StdFiles<'_>, StdOut<W>> {
     Devices {
         files: StdFiles { rt, faults: 0 },
-        out: StdOut {
-            inner: out,
-            faults: 0,
-        },
+        out: sink(out),
     }
 }
 

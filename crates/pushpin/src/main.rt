@@ -3,14 +3,17 @@
 //! It answers `--help` and `--version` itself. It stands on `gp_proxy`, and on adapters that tell no bytes.
 #![tactic(auto)]
 
+mod asked;
 mod devices;
+mod ends;
 mod texts;
 
-use devices::over_system;
+use asked::question;
+use devices::{over_system, sink};
+use ends::end;
 use gp_proxy::{Registry, Status, run};
 use std::process::ExitCode;
 use std::{env, io};
-use texts::{HELP, VERSION};
 
 /// The words after the program's name. One that isn't UTF-8 makes the command line faulty.
 fn words(rt: &HostRuntime) -> Result<Vec<String>, Status> {
@@ -24,35 +27,13 @@ fn words(rt: &HostRuntime) -> Result<Vec<String>, Status> {
     }
 }
 
-/// What is printed where the words are one that asks about the program.
-fn answer(words: &[String]) -> Option<&'static str> {
-    match words {
-        [word] => match word.as_str() {
-            "--help" => Some(HELP),
-            "--version" => Some(VERSION),
-            _ => None,
-        },
-        _ => None,
-    }
-}
-
-/// Tells on standard error how a run ended, where it isn't done.
-fn tell(rt: &HostRuntime, status: Status) -> io::Result<()> {
-    match status {
-        Status::Done => Ok(()),
-        Status::Usage(number) => eprintln!(rt; "{} {number}", status.words()),
-        Status::BadLine(number) => eprintln!(rt; "{} {number}", status.words()),
-        _ => eprintln!(rt; "{}", status.words()),
-    }
-}
-
 fn play(rt: &HostRuntime) -> Status {
     let words = match words(rt) {
         Ok(words) => words,
         Err(status) => return status,
     };
-    if let Some(text) = answer(words.as_slice()) {
-        return match print!(rt; "{text}") {
+    if let Some(asked) = question(words.as_slice()) {
+        return match print!(rt; "{}", asked.answer()) {
             Ok(()) => Status::Done,
             Err(_) => Status::SinkFault,
         };
@@ -64,6 +45,5 @@ fn play(rt: &HostRuntime) -> Status {
 
 fn main(rt: HostRuntime) -> ExitCode {
     let status = play(&rt);
-    let _ = tell(&rt, status);
-    ExitCode::from(status.exit())
+    ExitCode::from(end(rt.alloc(), status, &mut sink(rt.stderr())))
 }

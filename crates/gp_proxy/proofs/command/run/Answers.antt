@@ -3,7 +3,7 @@ use Rattle.gp_proxy.proofs.Saying.{not_loaded, stopped, done, cut_off, play_at, 
 use Rattle.gp_proxy.proofs.command.run.Goals as goal
 
 pub returns-in-Err : goal.returns-in-Err
-returns-in-Err g c = faulty _ c.in-Err.place _ c.in-Err.ensures refl c.requires
+returns-in-Err g c = faulty _ c.in-Err.place _ c.in-Err.ensures refl refl c.requires
 
 pub returns-in-Err-load : goal.returns-in-Err-load
 returns-in-Err-load g c =

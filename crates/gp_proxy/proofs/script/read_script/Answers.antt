@@ -20,7 +20,7 @@ pub loop-rest-preserved : goal.loop-rest-preserved
 loop-rest-preserved c =
     let event = c.in-Ok.event in
     let items = c.in-Ok-keep.ensures in
-    let line : IsLine c.in-Some.line.now event = record { spells = c.in-Ok.ensures.ok; only = c.in-Ok.ensures.only } in
+    let line : IsLine c.in-Some.line.now event = record { made = c.in-Ok.ensures.made; spells = c.in-Ok.ensures.ok; only = c.in-Ok.ensures.only } in
     let count = ap length items ∙ length-append c.loop-rest.events.items (event ∷ []) in
     record {
       reads = subst (λ (es : List Event). Reads c.args.bytes.now es c.in-Some.next.now) (sym items) (reads-push c.args.bytes.now c.loop-rest.events.items c.loop-rest.rest.now c.in-Some.line.now c.in-Some.next.now event c.loop-rest.invariant.reads c.in-Some.ensures line);
