@@ -3,7 +3,9 @@
 pub struct Fed {
     /// How many bytes were taken.
     pub taken: usize,
+    /// Where the run of content begins in the bytes.
     pub from: usize,
+    /// Where it ends.
     pub to: usize,
     /// Whether the body has ended behind the bytes taken.
     pub end: bool,

@@ -18,12 +18,10 @@ mod plan;
 mod reader;
 mod reading;
 mod state;
-#[cfg(test)]
-mod tests;
 
 pub use chunk::chunk_head;
 pub use fed::{Fed, FedAll, FedAllFault, FedFault};
 pub use law::body_law;
 pub use pieces::{BodyRead, read_pieces};
-pub use plan::{BodyFault, BodyPlan};
+pub use plan::{BodyFault, BodyPlan, length_plan};
 pub use reader::BodyReader;

@@ -87,7 +87,8 @@ fn coding_plan(fields: &[Field], version: u8) -> Result<BodyPlan, BodyFault>
     }
 }
 
-fn length_plan(fields: &[Field]) -> Result<BodyPlan, BodyFault>
+/// The length that the fields named `content-length` give, where all their values between commas are the same 1 to 18 digits. It takes no memory.
+pub fn length_plan(fields: &[Field]) -> Result<BodyPlan, BodyFault>
     ensures { result ≡ length_plan fields.now }
 {
     let name = b"content-length";

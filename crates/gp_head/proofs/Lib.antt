@@ -9,3 +9,4 @@ pub mod TargetLemmas
 pub mod PathTargets
 pub mod RoundTrip
 pub mod OneHead
+pub mod ValueLemmas

@@ -29,7 +29,7 @@ use Rattle.gp_head.proofs.ByteClasses.{IsToken-to_header, IsToken-from_header}
 -- ---- values without blanks at their ends
 
 -- the first byte, if there is one, is no blank
-abbrev StartsFilled : List ℕ → Type 0
+abbrev pub StartsFilled : List ℕ → Type 0
 StartsFilled [] = Unit {0}
 StartsFilled (b ∷ bs) = is_ows b ≡ false
 
@@ -41,7 +41,7 @@ skipped (b ∷ bs) = by_test (skipped bs) (is_ows b) refl
     by_test behind true blank = rw blank behind
     by_test behind false other = rw other other
 
-not_skipped : (xs : List ℕ) → StartsFilled xs → skip_ows xs ≡ xs
+pub not_skipped : (xs : List ℕ) → StartsFilled xs → skip_ows xs ≡ xs
 not_skipped [] filled = refl
 not_skipped (b ∷ bs) filled = rw filled refl
 
@@ -71,6 +71,16 @@ trim_again raw =
     let last : skip_ows (reverse (reverse back)) ≡ reverse (reverse back) =
     ap skip_ows (reverse-reverse back) ∙ not_skipped back (skipped (reverse front)) ∙ sym (reverse-reverse back) in
     trim_ows_space (reverse back) (not_skipped (reverse back) first) last
+
+pub starts_filled : (raw : List ℕ) → StartsFilled (trim_ows raw)
+unfolding trim_ows
+starts_filled raw =
+    let front = skip_ows raw in
+    let back = skip_ows (reverse front) in
+    let split = skip_splits (reverse front) in
+    let whole : front ≡ reverse back ++ reverse split.0 =
+    sym (reverse-reverse front) ∙ ap reverse split.1 ∙ reverse-append split.0 back in
+    StartsFilled-front (reverse back) (reverse split.0) (subst StartsFilled whole (skipped raw))
 
 -- what is trimmed is trimmed
 pub trim_twice : (raw : List ℕ) → trim_ows (trim_ows raw) ≡ trim_ows raw

@@ -68,3 +68,5 @@ pub record HeadLaw : Type 0 where
   -- fields can be dropped, and others that can be written added
   pub dropped : (keep : Field → Bool) (fields : List Field) → AreWritable fields → AreWritable (filter keep fields)
   pub added : (fields more : List Field) → AreWritable fields → AreWritable more → AreWritable (fields ++ more)
+  -- visible bytes, or bytes past ASCII, behind a value make a value
+  pub value : (value more : List ℕ) → IsFieldValue value → 0 < length more → AllPass is_uri_byte more → IsFieldValue (value ++ more)

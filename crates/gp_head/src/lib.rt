@@ -13,12 +13,12 @@ mod parse;
 mod read;
 mod scan;
 mod target;
-#[cfg(test)]
-mod tests;
 mod write;
 
 pub use law::head_law;
 pub use read::{HeadRead, HeadScan, read_request, read_response};
 pub use scan::{MAX_FIELDS, MAX_HEAD};
 pub use target::{TargetFault, split_target};
-pub use write::{write_request, write_response};
+pub use write::{
+    code_digits, write_field, write_number, write_request, write_response, write_value,
+};

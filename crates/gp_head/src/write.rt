@@ -1,4 +1,5 @@
 ghost use Rattle.std.specs.Prelude.{◌≡◌, ◌+◌, ◌%◌, ◌++◌, IfOk};
+ghost use Rattle.std.specs.Fmt.{decimal};
 ghost use Rattle.gp_head.specs.Heads.{IsRequestText, IsResponseText};
 ghost use Rattle.gp_head.specs.Texts.{field_text, fields_text, code_text, request_text, response_text, IsReadAgain};
 
@@ -30,7 +31,7 @@ pub fn write_response(alloc: Global, head: &Response) -> Result<Body, AllocError
 {
     let mut text = Vec::new(alloc);
     text.extend_from_slice(b"HTTP/1.1 ")?;
-    text.extend_from_slice(&digits(head.code))?;
+    text.extend_from_slice(&code_digits(head.code))?;
     text.extend_from_slice(b" ")?;
     text.extend_from_slice(head.reason.bytes())?;
     text.extend_from_slice(b"\r\n")?;
@@ -48,18 +49,38 @@ fn write_fields(text: &mut Vec<u8>, fields: &[Field]) -> Result<(), AllocError>
     text.extend_from_slice(b"\r\n")
 }
 
-/// Writes one field line.
-fn write_field(text: &mut Vec<u8>, field: &Field) -> Result<(), AllocError>
+/// Writes one field line, `NAME: VALUE CRLF`.
+pub fn write_field(text: &mut Vec<u8>, field: &Field) -> Result<(), AllocError>
     ensures { IfOk result (λ _. text.new.items ≡ text.old.items ++ field_text field.now) }
 {
-    text.extend_from_slice(field.name.bytes())?;
+    write_value(text, field.name.bytes(), field.value.bytes())
+}
+
+/// Writes the line of a field of this name and this value.
+pub fn write_value(text: &mut Vec<u8>, name: &[u8], value: &[u8]) -> Result<(), AllocError>
+    ensures { IfOk result (λ _. text.new.items ≡ text.old.items ++ field_text (record { name = name.now; value = value.now })) }
+{
+    text.extend_from_slice(name)?;
     text.extend_from_slice(b": ")?;
-    text.extend_from_slice(field.value.bytes())?;
+    text.extend_from_slice(value)?;
     text.extend_from_slice(b"\r\n")
 }
 
-/// The last three digits of a code.
-fn digits(code: u16) -> [u8; 3]
+/// Writes the line of a field whose value is a number in decimal digits.
+pub fn write_number(
+    alloc: Global,
+    text: &mut Vec<u8>,
+    name: &[u8],
+    number: u64,
+) -> Result<(), AllocError>
+    ensures { IfOk result (λ _. text.new.items ≡ text.old.items ++ field_text (record { name = name.now; value = decimal number })) }
+{
+    let digits = format!(in alloc; "{number}")?;
+    write_value(text, name, digits.as_bytes())
+}
+
+/// The last three digits of a status code.
+pub fn code_digits(code: u16) -> [u8; 3]
     ensures { result ≡ code_text code }
 {
     [digit(code / 100), digit(code / 10), digit(code)]

@@ -1,3 +1,3 @@
 pub mod Words
-pub mod Values
 pub mod Lists
+pub mod Hops

@@ -1,5 +1,5 @@
 -- Lists of fields, and values that are lists with commas (RFC 9110, sections 5.2, 5.3 and 5.6.1).
-use Rattle.std.specs.Prelude.{ℕ, Bool, not, ◌||◌, ◌==◌, List, filter, find, bytes_eq, Option, option_map, codes}
+use Rattle.std.specs.Prelude.{ℕ, Bool, ◌==◌, List, filter, find, bytes_eq, Option, option_map}
 use Rattle.std.specs.List.{list_any, slice_split}
 use Rattle.gp_plain.specs.declared.item.Field.{Field}
 use Rattle.gp_text.specs.Words.{trimmed, is_same}
@@ -33,15 +33,3 @@ lists word field = lists_word word field.value
 -- some field of this name lists the word
 abbrev pub has_part : List ℕ → List ℕ → List Field → Bool
 has_part name word fields = list_any (lists word) (filter (is_named name) fields)
-
--- the name is one of these
-abbrev pub is_among : List (List ℕ) → List ℕ → Bool
-is_among names name = list_any (λ (other : List ℕ). bytes_eq other name) names
-
--- the field is for this connection alone (RFC 9110, section 7.6.1), or its name is one of these
-abbrev pub is_dropped : List (List ℕ) → List Field → Field → Bool
-is_dropped names fields field = is_among names field.name || has_part (codes "connection") field.name fields
-
--- the fields that are passed on, in order
-abbrev pub kept : List (List ℕ) → List Field → List Field
-kept names fields = filter (λ (field : Field). not (is_dropped names fields field)) fields
