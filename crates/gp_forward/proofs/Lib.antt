@@ -1,0 +1,5 @@
+pub mod Kept
+pub mod Digits
+pub mod Planning
+pub mod Values
+pub mod Alone
