@@ -21,8 +21,6 @@ mod part;
 mod scan;
 mod span;
 mod target;
-#[cfg(test)]
-mod tests;
 mod text;
 
 pub use channels::Channels;

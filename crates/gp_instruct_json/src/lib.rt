@@ -12,8 +12,6 @@ mod fault;
 mod hold;
 mod kind;
 mod members;
-#[cfg(test)]
-mod tests;
 
 pub use body::read_body;
 pub use fault::JsonFault;

@@ -10,8 +10,6 @@ mod format;
 mod item;
 mod names;
 mod read;
-#[cfg(test)]
-mod tests;
 
 pub use fault::ItemsFault;
 pub use read::read_items;

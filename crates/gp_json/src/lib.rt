@@ -12,8 +12,6 @@ mod members;
 mod object;
 mod payload;
 mod response;
-#[cfg(test)]
-mod tests;
 
 pub use fault::{MemberFault, TextFault, wrong_form};
 pub use members::{

@@ -6,6 +6,7 @@
 
 mod body;
 mod copy;
+mod crossing;
 mod event;
 mod fit;
 mod follow;

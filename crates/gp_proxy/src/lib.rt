@@ -18,6 +18,3 @@ pub use command::run;
 pub use gp_registry::Registry;
 pub use replays::replay;
 pub use status::Status;
-
-#[cfg(test)]
-mod tests;

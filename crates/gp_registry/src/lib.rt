@@ -12,6 +12,3 @@ mod order;
 mod registry;
 
 pub use registry::Registry;
-
-#[cfg(test)]
-mod tests;

@@ -10,8 +10,6 @@ mod file;
 mod part;
 mod pick;
 mod route;
-#[cfg(test)]
-mod tests;
 mod word;
 
 pub use file::read_routes;

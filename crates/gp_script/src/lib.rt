@@ -20,6 +20,3 @@ pub use texts::{
     add_end, add_hold, add_piece, add_reply, write_end, write_hold, write_piece, write_reply,
     write_report,
 };
-
-#[cfg(test)]
-mod tests;

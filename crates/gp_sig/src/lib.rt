@@ -17,6 +17,3 @@ pub use fault::SigFault;
 pub use mac::hmac;
 pub use read::check;
 pub use write::token;
-
-#[cfg(test)]
-mod tests;

@@ -19,6 +19,3 @@ mod sizes;
 mod window;
 
 pub use window::{Pushed, Window};
-
-#[cfg(test)]
-mod tests;

@@ -1,0 +1,142 @@
+use crate::shown::{show_lines, show_status};
+use gp_outside::{MemFiles, MemOut, MemWorld, Turn, Turns};
+use gp_plain::Body;
+use gp_proxy::{Registry, run};
+use std::alloc::{AllocError, Global};
+
+/// The room of the sink, in bytes.
+const ROOM: usize = 2_000_000;
+
+/// One case: the words of the command line, the file `script`, and what each call on a device does in turn.
+///
+/// Its lines are `words WORDS`, without which the words are `replay script`; `reads TURN` and `writes TURN`, with a number of bytes,
+/// `wait` or `fail`; `only TEXT`, by which no other lines are shown than those that begin with it; and the lines of the script: `| LINE`; `- LINE` without a line feed; `+ N LINE` with N bytes `x`
+/// behind it; and `* N LINE`, N times, each `#` in it being the number of the time, from 1, and each `@` the number before.
+#[derive(Drop)]
+pub struct Case {
+    alloc: Global,
+    words: String,
+    only: String,
+    script: String,
+    reads: Vec<Turn>,
+    writes: Vec<Turn>,
+}
+
+fn turn(word: &str) -> Turn {
+    match word {
+        "wait" => Turn::Wait,
+        "fail" => Turn::Fail,
+        count => Turn::Bytes(count.parse::<u32>().unwrap_or(0)),
+    }
+}
+
+/// A number and the rest of a line.
+fn counted(line: &str) -> Option<(usize, &str)> {
+    let (count, rest) = line.split_once(' ')?;
+    match count.parse::<usize>() {
+        Ok(count) => Some((count, rest)),
+        Err(_) => None,
+    }
+}
+
+/// Adds a line with the number of a time in the place of `#`, and the number before in that of `@`.
+fn push_numbered(
+    alloc: Global,
+    text: &mut String,
+    line: &str,
+    number: usize,
+) -> Result<(), AllocError> {
+    let before = number.saturating_sub(1);
+    for letter in line.chars() {
+        match letter {
+            '#' => text.push_str(format!(in alloc; "{number}")?.as_str())?,
+            '@' => text.push_str(format!(in alloc; "{before}")?.as_str())?,
+            other => text.push(other)?,
+        }
+    }
+    text.push('\n')
+}
+
+/// Adds a line of a script for each number from 1 on.
+fn push_times(
+    alloc: Global,
+    text: &mut String,
+    line: &str,
+    count: usize,
+) -> Result<(), AllocError> {
+    for turn in 0..count {
+        push_numbered(alloc, text, line, turn.saturating_add(1))?;
+    }
+    Ok(())
+}
+
+/// Adds a line of a script with so many bytes behind it.
+fn push_long(text: &mut String, line: &str, count: usize) -> Result<(), AllocError> {
+    text.push_str(line)?;
+    for _turn in 0..count {
+        text.push('x')?;
+    }
+    text.push('\n')
+}
+
+fn split_words(alloc: Global, line: &str) -> Result<Vec<String>, AllocError> {
+    let mut words = Vec::new(alloc);
+    for word in line.split_whitespace() {
+        words.push(String::from_str(alloc, word)?)?;
+    }
+    Ok(words)
+}
+
+impl Case {
+    /// The words `replay script`, an empty file, and devices that are always ready.
+    pub fn new(alloc: Global) -> Result<Case, AllocError> {
+        Ok(Case {
+            alloc,
+            words: String::from_str(alloc, "replay script")?,
+            only: String::new(alloc),
+            script: String::new(alloc),
+            reads: Vec::new(alloc),
+            writes: Vec::new(alloc),
+        })
+    }
+
+    /// Reads one line of the case. It says whether it is one.
+    pub fn add(&mut self, line: &str) -> Result<bool, AllocError> {
+        let (kind, rest) = line.split_once(' ').unwrap_or((line, ""));
+        match (kind, counted(rest)) {
+            ("|", _) => push_long(&mut self.script, rest, 0)?,
+            ("-", _) => self.script.push_str(rest)?,
+            ("*", Some((count, line))) => push_times(self.alloc, &mut self.script, line, count)?,
+            ("+", Some((count, line))) => push_long(&mut self.script, line, count)?,
+            ("words", _) => self.words = String::from_str(self.alloc, rest)?,
+            ("only", _) => self.only = String::from_str(self.alloc, rest)?,
+            ("reads", _) => self.reads.push(turn(rest))?,
+            ("writes", _) => self.writes.push(turn(rest))?,
+            _ => return Ok(false),
+        }
+        Ok(true)
+    }
+
+    fn world(self) -> Result<MemWorld, AllocError> {
+        let path = Body::new(self.alloc, b"script")?;
+        let content = Body::from_vec(self.script.into_bytes());
+        let reads = Turns::from_vec(self.reads);
+        let writes = Turns::from_vec(self.writes);
+        let files = MemFiles::new(self.alloc, path, content, reads);
+        let out = MemOut::new(self.alloc, ROOM, writes)?;
+        Ok(MemWorld::new(files, out))
+    }
+
+    /// The status that the case ends with, and the lines that were written.
+    pub fn play(self) -> Result<String, AllocError> {
+        let alloc = self.alloc;
+        let words = split_words(alloc, self.words.as_str())?;
+        let only = String::from_str(alloc, self.only.as_str())?;
+        let mut world = self.world()?;
+        let mut registry = Registry::new(alloc);
+        let status = run(alloc, words.as_slice(), &mut registry, &mut world);
+        let mut text = show_status(alloc, status)?;
+        show_lines(alloc, &mut text, only.as_str(), world.out.written())?;
+        Ok(text)
+    }
+}

@@ -1,0 +1,51 @@
+//! The rows that the program's calls are tested by: cases of words, scripts and devices in memory, each run alone.
+//!
+//! Standard input has the cases, and the stored output what each of them must write, which was worked out by hand from
+//! the rules of docs/PROTOCOL.md. A line `# TITLE` begins a case; `case.rt` has its other lines, and `texts` and `owners`
+//! stand for calls that no script makes. So a new row is two pieces of text,
+//! and there is nothing to prove of it. It stands on `gp_proxy`, and on the devices in memory of `gp_outside`.
+#![tactic(auto)]
+
+mod case;
+mod owners;
+mod shown;
+mod texts;
+
+use case::Case;
+use owners::owners;
+use std::io;
+use texts::texts;
+
+/// Writes what a case gives.
+fn finish(rt: &HostRuntime, case: Case) -> io::Result<()> {
+    let text = case.play()?;
+    print!(rt; "{text}")
+}
+
+fn main(rt: HostRuntime) -> io::Result<()> {
+    let mut case: Option<Case> = None;
+    for line in rt.lines(rt.alloc()) {
+        let line = line?;
+        if line.starts_with("# ") {
+            if let Some(whole) = case.take() {
+                finish(&rt, whole)?;
+            }
+            println!(rt; "{line}")?;
+            case = Some(Case::new(rt.alloc())?);
+        } else if line.as_str() == "texts" {
+            case = None;
+            print!(rt; "{}", texts(rt.alloc())?)?;
+        } else if line.as_str() == "owners" {
+            case = None;
+            print!(rt; "{}", owners(rt.alloc())?)?;
+        } else if let Some(open) = &mut case {
+            if !open.add(line.as_str())? {
+                println!(rt; "not a line of a case: {line}")?;
+            }
+        }
+    }
+    match case {
+        Some(whole) => finish(&rt, whole),
+        None => Ok(()),
+    }
+}
