@@ -43,7 +43,9 @@ pub enum Why {
 /// What a session leaves.
 #[derive(Drop)]
 pub struct Outcome {
+    /// How the session ended.
     pub end: SessionEnd,
+    /// Why the request was refused, if it was.
     pub why: Why,
     /// How many items it published.
     pub published: u32,

@@ -5,7 +5,9 @@ ghost use Rattle.gp_hub.specs.Sessions.{HasPolled};
 /// What a poll brings: the output, or nothing yet.
 #[derive(Drop)]
 pub enum Polled<T> {
+    /// The session has ended, with this output.
     Ready(T),
+    /// It waits for a device or for the hub.
     Pending,
 }
 

@@ -12,7 +12,9 @@ pub enum Mode {
 /// A channel, and the previous id on it where there is one.
 #[derive(Drop)]
 pub struct Sub {
+    /// The channel.
     pub name: Name,
+    /// The id of the last item that the client has of it.
     pub prev: Option<ItemId>,
 }
 

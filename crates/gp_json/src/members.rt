@@ -9,6 +9,7 @@ use std::alloc::Global;
 /// A whole number that fits 64 bits, written without a fraction and without an exponent.
 #[derive(Clone, Copy, Drop, Debug, PartialEq)]
 pub enum Whole {
+    /// It is 0 or more.
     Unsigned(u64),
     /// Below 0.
     Negative(i64),

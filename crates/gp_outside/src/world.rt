@@ -7,7 +7,9 @@ use crate::sink::MemOut;
 /// A world in memory.
 #[derive(Drop)]
 pub struct MemWorld {
+    /// The files that it lends.
     pub files: MemFiles,
+    /// The sink that it lends.
     pub out: MemOut,
 }
 

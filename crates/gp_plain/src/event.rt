@@ -44,8 +44,11 @@ pub enum HoldSpec {
 /// What follows a page of a recovery: the stream goes on, there is a next page, or the stream ends.
 #[derive(Clone, Copy, Drop, Debug, PartialEq)]
 pub enum Then {
+    /// The hold goes on with what follows the page.
     Hold,
+    /// There is a further page to ask for.
     Next,
+    /// The stream ends with the page.
     End,
 }
 
@@ -101,6 +104,8 @@ pub enum Event {
 /// An event, and the number of the one who did it.
 #[derive(Drop)]
 pub struct Entry {
+    /// Who made the event: the number of a pass.
     pub who: u64,
+    /// The event.
     pub event: Event,
 }

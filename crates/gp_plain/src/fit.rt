@@ -163,8 +163,8 @@ impl Event {
         }
     }
 
-    /// Whether it is within the limits, and of a kind that is built: the attach of a reliable stream with a link,
-    /// the publication of an item with a stream part alone, a take and a detach. It takes no memory.
+    /// Whether it is within the limits, and of a kind that is built: the attach of a stream, a plain hold or a response
+    /// hold, a publication, a take and a detach. It takes no memory.
     pub fn fits(&self) -> bool
         ensures { result ≡ fits self.now }
     {

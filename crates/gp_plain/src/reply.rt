@@ -59,8 +59,11 @@ pub enum EndCause {
 /// where nothing is left.
 #[derive(Drop)]
 pub struct Taken {
+    /// The pieces, in order.
     pub pieces: Pieces,
+    /// The position from which the origin is to be asked for what is missing.
     pub recover: Option<ItemId>,
+    /// The end of the hold, where it has ended and nothing waits any more.
     pub ended: Option<EndCause>,
 }
 
@@ -73,13 +76,15 @@ pub enum Reply {
     Full(u32),
     /// So many holds were sent something.
     Published(u32),
-    /// An item of this id was published on the channel already.
+    /// An item of this id on the channel is among the last 4,096 that were published.
     Repeat(ItemId),
+    /// What a take gave.
     Taken(Taken),
     /// The page was added.
     Paged,
     /// The page doesn't begin at the position, and wasn't added.
     Stale { from: ItemId, position: ItemId },
+    /// The event was carried out.
     Done,
     /// The hold has this owner.
     Foreign(u64),
@@ -95,11 +100,17 @@ pub enum Reply {
 /// and the end. A number above 2^64 - 1 is told as 2^64 - 1.
 #[derive(Drop)]
 pub struct HoldReport {
+    /// The number of the hold.
     pub number: u64,
+    /// Its kind.
     pub kind: HoldKind,
+    /// How many pieces were taken of it; at most 2^64 - 1 is told.
     pub pieces: u64,
+    /// How many bytes these have; at most 2^64 - 1 is told.
     pub bytes: u64,
+    /// The position behind these pieces.
     pub position: Option<ItemId>,
+    /// The end that a take told, or `Detached`.
     pub end: EndCause,
 }
 

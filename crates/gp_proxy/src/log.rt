@@ -4,15 +4,20 @@ use gp_plain::{EndCause, HoldKind, ItemId, Pieces};
 /// the end.
 #[derive(Drop)]
 pub struct Log {
+    /// The hold's kind.
     pub kind: HoldKind,
+    /// Its first position.
     pub start: Option<ItemId>,
+    /// What was taken of it.
     pub pieces: Pieces,
+    /// The end that a take told, or that a detach made.
     pub ended: Option<EndCause>,
 }
 
 /// What an event may change of the logs, noted before it is stepped.
 #[derive(Drop)]
 pub enum Noted {
+    /// The event concerns no log.
     Nothing,
     /// A hold of a kind begins at a position.
     Begins(HoldKind, Option<ItemId>),

@@ -10,8 +10,11 @@ use std::alloc::AllocError;
 /// A kept hold.
 #[derive(Drop)]
 pub struct Hold {
+    /// Its number.
     pub number: u64,
+    /// Who attached it.
     pub owner: u64,
+    /// What it does.
     pub machine: HoldMachine,
 }
 

@@ -14,14 +14,17 @@ use std::alloc::{AllocError, Global};
 /// A hold of any kind, and what an item that is served is to do to it.
 #[derive(Drop)]
 pub enum HoldMachine {
+    /// A reliable stream, and what an item is to do to it.
     Stream {
         hold: StreamHold,
         plan: Option<StreamPlan>,
     },
+    /// A stream without a position, and what an item is to do to it.
     Plain {
         hold: PlainHold,
         plan: Option<PlainPlan>,
     },
+    /// A response hold, and what an item is to do to it.
     Response {
         hold: ResponseHold,
         plan: Option<ResponsePlan>,

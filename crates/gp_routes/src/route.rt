@@ -5,7 +5,9 @@ use std::marker::Model;
 /// Where requests go: an origin, and whether WebSocket clients are carried to it as posts.
 #[derive(Drop)]
 pub struct Route {
+    /// Where the origin listens.
     pub address: Address,
+    /// Whether WebSockets are carried to it as HTTP posts.
     pub over_http: bool,
 }
 

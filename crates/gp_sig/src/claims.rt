@@ -10,7 +10,9 @@ use std::alloc::{AllocError, Global};
 /// Who made a token, and the second from which it doesn't count any more.
 #[derive(Drop)]
 pub struct Claims {
+    /// Who made the token.
     pub iss: Body,
+    /// The second from which it doesn't count any more.
     pub exp: u64,
 }
 
