@@ -25,55 +25,125 @@ fn cut(line: &str) -> (&str, &str) {
     line.split_once(' ').unwrap_or((line, ""))
 }
 
-/// What the reader of a kind answers, or none where there is no such kind.
-fn answer(alloc: Global, kind: &str, rest: &str) -> Result<Option<Vec<u8>>, AllocError> {
-    let (word, more) = cut(rest);
-    let (second, last) = cut(more);
-    let whole = unescaped(alloc, rest)?;
-    let behind = unescaped(alloc, more)?;
-    let third = unescaped(alloc, last)?;
+/// The arguments of a row: its words, and its text from each of them on.
+#[derive(Drop)]
+struct Row<'a> {
+    first: &'a str,
+    second: &'a str,
+    rest: &'a str,
+    whole: Vec<u8>,
+    behind_first: Vec<u8>,
+    behind_second: Vec<u8>,
+}
+
+impl<'a> Row<'a> {
+    fn read(alloc: Global, text: &'a str) -> Result<Row<'a>, AllocError> {
+        let (first, more) = cut(text);
+        let (second, rest) = cut(more);
+        Ok(Row {
+            first,
+            second,
+            rest,
+            whole: unescaped(alloc, text)?,
+            behind_first: unescaped(alloc, more)?,
+            behind_second: unescaped(alloc, rest)?,
+        })
+    }
+}
+
+fn of_heads(alloc: Global, kind: &str, row: &Row<'_>) -> Result<Option<Vec<u8>>, AllocError> {
+    let bytes = row.whole.as_slice();
     let shown = match kind {
-        "request" => heads::request(alloc, whole.as_slice())?,
-        "request-by-bytes" => heads::answered_at(alloc, whole.as_slice())?,
-        "response" => heads::response(alloc, whole.as_slice())?,
-        "write-request" => heads::write_request_read(alloc, whole.as_slice())?,
-        "write-response" => heads::write_response_read(alloc, whole.as_slice())?,
-        "target" => heads::target(alloc, whole.as_slice())?,
-        "plan-request" => bodies::plan_of_request(alloc, word, behind.as_slice())?,
-        "plan-response" => bodies::plan_of_response(alloc, word, second, third.as_slice())?,
-        "body" => bodies::body(alloc, word, second, third.as_slice())?,
-        "pieces" => bodies::pieces(alloc, word, second, third.as_slice())?,
-        "feed-all" => bodies::feed_all(alloc, word, second, third.as_slice())?,
-        "chunk" => bodies::chunk(alloc, word)?,
-        "answer" => answers::answer(alloc, word, second, third.as_slice())?,
-        "passed" => {
-            let (method, fields) = cut(last);
-            answers::passed(
-                alloc,
-                word,
-                second,
-                method,
-                unescaped(alloc, fields)?.as_slice(),
-            )?
-        }
-        "framed" => answers::framed(alloc, word, more)?,
-        "refusal" => answers::refusal(alloc, word, more)?,
-        "published" => answers::published(alloc)?,
-        "routes" => routes::picked(alloc, word, second, third.as_slice())?,
-        "headers" => grip::headers(alloc, whole.as_slice())?,
-        "link" => grip::link(alloc, whole.as_slice())?,
-        "last" => grip::last(alloc, word, more)?,
-        "grip" => grip::body(alloc, &[], whole.as_slice())?,
-        "grip-under" => grip::body(alloc, unescaped(alloc, word)?.as_slice(), behind.as_slice())?,
-        "instruct-type" => grip::is_instruct_type(alloc, whole.as_slice())?,
-        "part" => json::part(alloc, whole.as_slice())?,
-        "items" => items::items(alloc, whole.as_slice())?,
-        "hmac" => tokens::mac(alloc, unescaped(alloc, word)?.as_slice(), behind.as_slice())?,
-        "token" => tokens::written(alloc, word, second, last)?,
-        "check" => tokens::checked(alloc, word, second, last)?,
+        "request" => heads::request(alloc, bytes)?,
+        "request-by-bytes" => heads::answered_at(alloc, bytes)?,
+        "response" => heads::response(alloc, bytes)?,
+        "write-request" => heads::write_request_read(alloc, bytes)?,
+        "write-response" => heads::write_response_read(alloc, bytes)?,
+        "target" => heads::target(alloc, bytes)?,
         _ => return Ok(None),
     };
     Ok(Some(shown))
+}
+
+fn of_bodies(alloc: Global, kind: &str, row: &Row<'_>) -> Result<Option<Vec<u8>>, AllocError> {
+    let bytes = row.behind_second.as_slice();
+    let shown = match kind {
+        "plan-request" => bodies::plan_of_request(alloc, row.first, row.behind_first.as_slice())?,
+        "plan-response" => bodies::plan_of_response(alloc, row.first, row.second, bytes)?,
+        "body" => bodies::body(alloc, row.first, row.second, bytes)?,
+        "pieces" => bodies::pieces(alloc, row.first, row.second, bytes)?,
+        "feed-all" => bodies::feed_all(alloc, row.first, row.second, bytes)?,
+        "chunk" => bodies::chunk(alloc, row.first)?,
+        _ => return Ok(None),
+    };
+    Ok(Some(shown))
+}
+
+fn of_answers(alloc: Global, kind: &str, row: &Row<'_>) -> Result<Option<Vec<u8>>, AllocError> {
+    let shown = match kind {
+        "answer" => { answers::answer(alloc, row.first, row.second, row.behind_second.as_slice())? }
+        "passed" => {
+            let (method, fields) = cut(row.rest);
+            let fields = unescaped(alloc, fields)?;
+            answers::passed(alloc, row.first, row.second, method, fields.as_slice())?
+        }
+        "framed" => answers::framed(alloc, row.first, row.second)?,
+        "refusal" => answers::refusal(alloc, row.first, row.second)?,
+        "published" => answers::published(alloc)?,
+        "routes" => routes::picked(alloc, row.first, row.second, row.behind_second.as_slice())?,
+        _ => return Ok(None),
+    };
+    Ok(Some(shown))
+}
+
+fn of_grip(alloc: Global, kind: &str, row: &Row<'_>) -> Result<Option<Vec<u8>>, AllocError> {
+    let bytes = row.whole.as_slice();
+    let shown = match kind {
+        "headers" => grip::headers(alloc, bytes)?,
+        "link" => grip::link(alloc, bytes)?,
+        "last" => grip::last(alloc, row.first, row.second)?,
+        "grip" => grip::body(alloc, &[], bytes)?,
+        "grip-under" => {
+            let fields = unescaped(alloc, row.first)?;
+            grip::body(alloc, fields.as_slice(), row.behind_first.as_slice())?
+        }
+        "instruct-type" => grip::is_instruct_type(alloc, bytes)?,
+        _ => return Ok(None),
+    };
+    Ok(Some(shown))
+}
+
+fn of_others(alloc: Global, kind: &str, row: &Row<'_>) -> Result<Option<Vec<u8>>, AllocError> {
+    let shown = match kind {
+        "part" => json::part(alloc, row.whole.as_slice())?,
+        "items" => items::items(alloc, row.whole.as_slice())?,
+        "hmac" => {
+            let key = unescaped(alloc, row.first)?;
+            tokens::mac(alloc, key.as_slice(), row.behind_first.as_slice())?
+        }
+        "token" => tokens::written(alloc, row.first, row.second, row.rest)?,
+        "check" => tokens::checked(alloc, row.first, row.second, row.rest)?,
+        _ => return Ok(None),
+    };
+    Ok(Some(shown))
+}
+
+/// What the reader of a kind answers, or none where there is no such kind.
+fn answer(alloc: Global, kind: &str, rest: &str) -> Result<Option<Vec<u8>>, AllocError> {
+    let row = Row::read(alloc, rest)?;
+    if let Some(shown) = of_heads(alloc, kind, &row)? {
+        return Ok(Some(shown));
+    }
+    if let Some(shown) = of_bodies(alloc, kind, &row)? {
+        return Ok(Some(shown));
+    }
+    if let Some(shown) = of_answers(alloc, kind, &row)? {
+        return Ok(Some(shown));
+    }
+    if let Some(shown) = of_grip(alloc, kind, &row)? {
+        return Ok(Some(shown));
+    }
+    of_others(alloc, kind, &row)
 }
 
 fn main(rt: HostRuntime) -> io::Result<()> {

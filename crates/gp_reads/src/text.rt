@@ -40,18 +40,27 @@ fn push_plain(bytes: &mut Vec<u8>, text: &[u8]) -> Result<(), AllocError> {
     Ok(())
 }
 
+/// Adds the text between `\{` and `|}`, as often as the number before its bar says.
+fn push_times(bytes: &mut Vec<u8>, inner: &str) -> Result<(), AllocError> {
+    let (count, repeated) = inner.split_once('|').unwrap_or(("0", ""));
+    for _turn in 0..count.parse::<usize>().unwrap_or(0) {
+        push_plain(bytes, repeated.as_bytes())?;
+    }
+    Ok(())
+}
+
 /// The bytes that a text stands for: `\r`, `\n`, `\t`, `\0`, `\s` for a space, `\xHH`, and `\` before another byte for that byte. Between
 /// `\{N|` and `|}` stands a text that comes N times.
 pub fn unescaped(alloc: Global, text: &str) -> Result<Vec<u8>, AllocError> {
     let mut bytes = Vec::new(alloc);
     let mut rest = text;
-    while let Some((front, more)) = rest.split_once("\\{") {
+    for _part in 0..text.len() {
+        let Some((front, more)) = rest.split_once("\\{") else {
+            break;
+        };
         push_plain(&mut bytes, front.as_bytes())?;
         let (inner, behind) = more.split_once("|}").unwrap_or((more, ""));
-        let (count, repeated) = inner.split_once('|').unwrap_or(("0", ""));
-        for _turn in 0..count.parse::<usize>().unwrap_or(0) {
-            push_plain(&mut bytes, repeated.as_bytes())?;
-        }
+        push_times(&mut bytes, inner)?;
         rest = behind;
     }
     push_plain(&mut bytes, rest.as_bytes())?;
