@@ -20,7 +20,7 @@ use Rattle.gp_plain.specs.Names.{same_id}
 use Rattle.gp_plain.specs.Items.{is_chained, is_id, comes_after, content_of, closes, is_on, goes_on_from}
 use Rattle.gp_plain.specs.Follow.{last_items, is_heard, without_first, going_on, follow_within, follow}
 use Rattle.gp_plain.specs.Pieces.{piece_bytes, text, moved, id_or, closed_by, end_by, has_room, batch}
-use Rattle.gp_plain.specs.Holds.{Terms, State, Held, terms_of, is_live, added, run, marked, gapped, can_ask, offered, shows_gap, run_for, comes_next, piece_of, settled_if, grew, served, opened, begun_state, timed, rest_of, end_or_detached}
+use Rattle.gp_plain.specs.Holds.{Terms, State, Held, terms_of, is_live, added, run, marked, gapped, can_ask, offered, shows_gap, run_for, piece_of, settled_if, grew, served, opened, begun_state, timed, rest_of, end_or_detached}
 use Rattle.gp_plain.specs.History.{held, published, window}
 use Rattle.gp_plain.specs.Chain.{Link, Chain, IsNoneOf, AreDistinct, bytes_of, last_id, IsIn, IsLinked, IsBetween, CoversIds, CoversItem, NoneCloses, Covers, ChainLaw, WindowLaw}
 use Rattle.gp_plain.proofs.Windows.{drop_all, all_front, all_last, window_more}

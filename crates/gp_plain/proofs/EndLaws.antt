@@ -3,17 +3,16 @@ use Rattle.std.proofs.Common.{◌≡◌, ◌⊎◌, inl, inr, ℕ, ◌+◌, Bool
 use Rattle.std.specs.List.{AllByRecursion}
 use Rattle.std.specs.Option.{option_map_or}
 use Rattle.gp_plain.specs.declared.item.Item.{Item}
-use Rattle.gp_plain.specs.declared.event.Entry.{Entry}
 use Rattle.gp_plain.specs.declared.event.HoldSpec.{HoldSpec}
 use Rattle.gp_plain.specs.declared.event.HoldSpec.TheVariants.{Stream, Plain, Response, Socket}
 use Rattle.gp_plain.specs.declared.reply.Piece.{Piece}
 use Rattle.gp_plain.specs.declared.reply.EndCause.{EndCause}
 use Rattle.gp_plain.specs.declared.reply.EndCause.TheVariants.{Closed, Detached, Gap, Unrecovered, Overflow, Answered, Retry, TimedOut}
-use Rattle.gp_plain.specs.Pieces.{end_by, has_room, moved, batch, left}
+use Rattle.gp_plain.specs.Pieces.{end_by, has_room, moved, left}
 use Rattle.gp_plain.specs.Follow.{last_items}
 use Rattle.gp_plain.specs.Holds.{State, Held, openings, opened, only_channel, followers, begun_state, is_live, added, run, marked, missed, gapped, can_ask, offered, shows_gap, run_for, settled_if, grew, timed, rest_of, ends_now, taken_of, end_or_detached}
 use Rattle.gp_plain.specs.History.{held, published}
-use Rattle.gp_plain.specs.Ends.{PositionLaw, HasToldEnd, ToldLaw, IsBrought, EndsByPiece, AnswerLaw}
+use Rattle.gp_plain.specs.Ends.{PositionLaw, ToldLaw, IsBrought, EndsByPiece, AnswerLaw}
 use Rattle.gp_plain.proofs.Histories.{IsKept, in_each_history, all_at}
 use Rattle.gp_plain.proofs.Soundness.{IsSound, are_sound, taken_again}
 use Rattle.gp_plain.proofs.Released.{have_ended}

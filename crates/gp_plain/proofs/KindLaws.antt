@@ -6,20 +6,17 @@ use Rattle.std.proofs.lemmas.List.{append-nil, take-append-drop}
 use Rattle.gp_plain.specs.declared.item.Item.{Item}
 use Rattle.gp_plain.specs.declared.item.ResponsePart.{ResponsePart}
 use Rattle.gp_plain.specs.declared.item.StreamPart.{StreamPart}
-use Rattle.gp_plain.specs.declared.event.Entry.{Entry}
-use Rattle.gp_plain.specs.declared.event.HoldKind.{HoldKind}
-use Rattle.gp_plain.specs.declared.event.HoldKind.TheVariants.{Stream as StreamKind, Plain as PlainKind, Response as ResponseKind, Socket as SocketKind}
 use Rattle.gp_plain.specs.declared.event.HoldSpec.{HoldSpec}
 use Rattle.gp_plain.specs.declared.event.HoldSpec.TheVariants.{Stream, Plain, Response, Socket}
 use Rattle.gp_plain.specs.declared.reply.Piece.{Piece}
 use Rattle.gp_plain.specs.declared.reply.EndCause.{EndCause}
 use Rattle.gp_plain.specs.declared.reply.EndCause.TheVariants.{Closed, Detached, Gap, Unrecovered, Overflow, Answered, Retry, TimedOut}
-use Rattle.gp_plain.specs.Items.{is_chained, is_id, closes}
+use Rattle.gp_plain.specs.Items.{closes}
 use Rattle.gp_plain.specs.Pieces.{position_after, closed_by, end_by, has_room, moved, batch_count, batch, left}
 use Rattle.gp_plain.specs.Follow.{last_items, is_heard, follow}
-use Rattle.gp_plain.specs.Holds.{Terms, State, Held, terms_of, start_of, position_of, openings, opened, only_channel, followers, chain_run, comes_next, leaves_gap, run_by, run_for, piece_by, piece_of, answer_or, answer_of, ends_by, stream_piece, answer_piece, begun_state, is_live, is_ahead, wants_more, added, run, marked, missed, gapped, can_ask, offered, shows_gap, settled_if, grew, timed, rest_of, ends_now, asks, is_retry, repeats, recover_from, given, taken_of, end_or_detached}
-use Rattle.gp_plain.specs.History.{held, published}
-use Rattle.gp_plain.specs.Kinds.{ends_stream, ends_plain, ends_response, may_end, RecoverFits, TakenFits, KindLaw}
+use Rattle.gp_plain.specs.Holds.{Terms, State, Held, terms_of, start_of, opened, only_channel, followers, comes_next, leaves_gap, run_by, run_for, piece_by, answer_or, ends_by, stream_piece, answer_piece, begun_state, is_live, is_ahead, wants_more, added, run, marked, missed, gapped, can_ask, offered, shows_gap, settled_if, grew, timed, rest_of, ends_now, asks, is_retry, repeats, recover_from, given, taken_of}
+use Rattle.gp_plain.specs.History.{held}
+use Rattle.gp_plain.specs.Kinds.{may_end, RecoverFits, TakenFits, KindLaw}
 use Rattle.gp_plain.proofs.Histories.{IsKept, in_each_history, all_at}
 use Rattle.gp_plain.proofs.Soundness.{Fits, timed_fits, sound}
 use Rattle.gp_plain.proofs.EndLaws.{Quiet, Ends, told_now, time_ends, ends_kept, ends_by_piece}

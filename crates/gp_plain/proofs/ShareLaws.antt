@@ -1,15 +1,14 @@
 -- What later entries leave of the shares of holds.
-use Rattle.std.proofs.Common.{◌≡◌, ◌≢◌, ℕ, zero, suc, ◌+◌, ◌==◌, Bool, true, false, cond, not, List, [], ◌∷◌, ◌++◌, map, fold, refl, sym, ap, ◌∙◌, subst, slice_get, Option, Some, None, option_map, eq-eqb}
+use Rattle.std.proofs.Common.{◌≡◌, ℕ, zero, suc, ◌+◌, ◌==◌, Bool, true, false, cond, not, List, [], ◌∷◌, ◌++◌, fold, refl, sym, ap, ◌∙◌, subst, slice_get, Option, Some, None, option_map}
 use Rattle.std.specs.List.{All, AllByRecursion}
 use Rattle.std.proofs.lemmas.List.Sums.{fold-append}
 use Rattle.std.proofs.lemmas.List.Elements.{All-head, All-tail, recursion_from_All}
-use Rattle.gp_plain.specs.declared.item.Item.{Item}
 use Rattle.gp_plain.specs.declared.event.Entry.{Entry}
 use Rattle.gp_plain.specs.declared.event.Event.{Event}
 use Rattle.gp_plain.specs.declared.event.Event.TheVariants.{Attach, Publish, Take, Page, PageFailed, Push, Join, Leave, Detach}
 use Rattle.gp_plain.specs.Follow.{last_items, is_repeat}
 use Rattle.gp_plain.specs.Holds.{Held, begun, taken_from, let_go}
-use Rattle.gp_plain.specs.History.{Past, has_place, changed, with_hold, with_item, after_event, after, nothing, past_of, held}
+use Rattle.gp_plain.specs.History.{Past, has_place, changed, with_hold, after_event, after, nothing, past_of, held}
 use Rattle.gp_plain.specs.Order.{Attaches}
 use Rattle.gp_plain.specs.Others.{Share, share_of, share_at, shares_from, IsNoAttachOf, MovesShares, ReleasedShareLaw, ReleasedSharesLaw, MovesLaw}
 use Rattle.gp_plain.proofs.OthersLaw.{released_law_holds, share_if, attached_shares, published_shares, differs}

@@ -14,5 +14,7 @@ pub mod Standing
 pub mod Ends
 pub mod Kinds
 pub mod Chain
+pub mod Taken
 pub mod Order
 pub mod Others
+pub mod Reports

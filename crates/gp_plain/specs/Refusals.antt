@@ -1,5 +1,5 @@
 -- Which events need no memory, and which replies refuse an event.
-use Rattle.std.specs.Prelude.{ℕ, ⊤, Bool, true, false}
+use Rattle.std.specs.Prelude.{⊤, Bool, true, false}
 use Rattle.gp_plain.specs.declared.event.Event.{Event}
 use Rattle.gp_plain.specs.declared.event.Event.TheVariants.{Attach, Publish, Take, Page, PageFailed, Push, Join, Leave, Detach}
 use Rattle.gp_plain.specs.declared.reply.Reply.{Reply}

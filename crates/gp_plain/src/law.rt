@@ -1,6 +1,7 @@
 //! The laws of the definitions, each the contract of a call.
 ghost use Rattle.gp_plain.specs.Chain.{ChainLaw, WindowLaw};
 ghost use Rattle.gp_plain.specs.Kinds.{KindLaw};
+ghost use Rattle.gp_plain.specs.Taken.{TakenLaw};
 ghost use Rattle.gp_plain.specs.Order.{OrderLaw};
 ghost use Rattle.gp_plain.specs.Ends.{AnswerLaw, PositionLaw, ToldLaw};
 ghost use Rattle.gp_plain.specs.Others.{MovesLaw, OthersLaw, OwnersLaw, ReleasedLaw, ReleasedShareLaw, ReleasedSharesLaw};
@@ -11,6 +12,13 @@ ghost use Rattle.gp_plain.specs.Others.{MovesLaw, OthersLaw, OwnersLaw, Released
 /// last, and the hold has then ended.
 pub fn chain_law()
     ensures { ChainLaw }
+{}
+
+/// The law of what was taken. In every history, for every chain that covers a reliable stream hold: the text of the pieces that
+/// Takes gave is a beginning of the opening and then the contents of the chain's items behind the hold's previous id, in order,
+/// each once, none skipped. A close stands among these items only as the last.
+pub fn taken_law()
+    ensures { TakenLaw }
 {}
 
 /// The law of the window. In every history, no chained item of the last 4,096 published ones has the position of a

@@ -23,6 +23,7 @@ mod reply;
 mod roomed;
 mod run;
 mod tail;
+mod tally;
 
 pub use body::Body;
 pub use copy::{copy_fields, copy_names};
@@ -31,7 +32,7 @@ pub use http::{Address, Request, Response, Signer};
 pub use item::{Field, Fields, Item, Items, Message, MessagePart, Names, ResponsePart, StreamPart};
 pub use law::{
     answer_law, chain_law, kind_law, moves_law, order_law, others_law, owners_law, position_law,
-    released_law, released_shares_law, told_law, window_law,
+    released_law, released_shares_law, taken_law, told_law, window_law,
 };
 pub use list::List;
 pub use name::{ItemId, Name, NameFault, copy_id};
@@ -42,6 +43,4 @@ pub use reply::{EndCause, HoldReport, HoldReports, Piece, Pieces, Reply, Taken};
 pub use roomed::Roomed;
 pub use run::Run;
 pub use tail::{Places, Tail};
-
-#[cfg(test)]
-mod tests;
+pub use tally::{Payload, Tally};

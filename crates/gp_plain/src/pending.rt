@@ -21,6 +21,9 @@ pub const PIECES: usize = 1024;
 /// The bytes of one Take, at most, unless its first piece alone has more.
 const BATCH: usize = 65536;
 
+/// For how many pieces room is kept where none waits, at most.
+const IDLE: usize = 16;
+
 /// The pieces that wait for a hold, oldest first: at most 524,288 bytes and 1,024 pieces.
 ///
 /// It is filled in two steps, so that many holds can be filled together or not at all: a `Run` of pieces is made with
@@ -140,6 +143,15 @@ fn moved_out(
     Ok(given)
 }
 
+/// Lets room for more than 16 pieces go, where no piece is left.
+fn let_room_go(alloc: Global, pieces: &mut VecDeque<Piece>)
+    ensures { pieces.new.items ≡ pieces.old.items }
+{
+    if pieces.is_empty() && pieces.capacity() > IDLE {
+        *pieces = VecDeque::new(alloc);
+    }
+}
+
 /// A copy of pieces.
 fn copied(alloc: Global, pieces: &VecDeque<Piece>) -> Result<Vec<Piece>, AllocError>
     ensures { IfOk result (λ copy. copy.items ≡ pieces.now.items) }
@@ -217,7 +229,8 @@ impl Pending {
     }
 
     /// Takes the next batch out: the longest first part with at most 65,536 bytes, or the first piece alone where it
-    /// has more. Its work grows with what it gives. An error leaves all as before.
+    /// has more. Its work grows with what it gives. Where nothing is left, room for more than 16 pieces is let go. An error
+    /// leaves all as before.
     pub fn take(&mut self) -> Result<Pieces, AllocError>
         ensures given { IfOk result (λ given. given ≡ batch self.old.items) }
         ensures left { OnOk result (self.new.items ≡ left self.old.items) }
@@ -226,6 +239,7 @@ impl Pending {
         let (count, bytes) = measured(&self.pieces);
         let given = moved_out(self.alloc, &mut self.pieces, count)?;
         self.bytes -= bytes;
+        let_room_go(self.alloc, &mut self.pieces);
         Ok(Queue::from_vec(given))
     }
 

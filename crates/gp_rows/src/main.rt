@@ -1,18 +1,21 @@
 //! The rows that the program's calls are tested by: cases of words, scripts and devices in memory, each run alone.
 //!
 //! Standard input has the cases, and the stored output what each of them must write, which was worked out by hand from
-//! the rules of docs/PROTOCOL.md. A line `# TITLE` begins a case; `case.rt` has its other lines, and `texts` and `owners`
+//! the rules of docs/PROTOCOL.md. A line `# TITLE` begins a case; `case.rt` has its other lines. The words of `named`
 //! stand for calls that no script makes. So a new row is two pieces of text,
 //! and there is nothing to prove of it. It stands on `gp_proxy`, and on the devices in memory of `gp_outside`.
 #![tactic(auto)]
 
 mod case;
 mod owners;
+mod plain;
 mod shown;
 mod texts;
 
 use case::Case;
 use owners::owners;
+use plain::{copies, lists, names, tallies};
+use std::alloc::{AllocError, Global};
 use std::io;
 use texts::texts;
 
@@ -20,6 +23,19 @@ use texts::texts;
 fn finish(rt: &HostRuntime, case: Case) -> io::Result<()> {
     let text = case.play()?;
     print!(rt; "{text}")
+}
+
+/// The text of a group of calls that no script makes, by its name.
+fn named(alloc: Global, name: &str) -> Result<Option<String>, AllocError> {
+    match name {
+        "texts" => Ok(Some(texts(alloc)?)),
+        "owners" => Ok(Some(owners(alloc)?)),
+        "names" => Ok(Some(names(alloc)?)),
+        "copies" => Ok(Some(copies(alloc)?)),
+        "lists" => Ok(Some(lists(alloc)?)),
+        "tallies" => Ok(Some(tallies(alloc)?)),
+        _ => Ok(None),
+    }
 }
 
 fn main(rt: HostRuntime) -> io::Result<()> {
@@ -32,12 +48,9 @@ fn main(rt: HostRuntime) -> io::Result<()> {
             }
             println!(rt; "{line}")?;
             case = Some(Case::new(rt.alloc())?);
-        } else if line.as_str() == "texts" {
+        } else if let Some(text) = named(rt.alloc(), line.as_str())? {
             case = None;
-            print!(rt; "{}", texts(rt.alloc())?)?;
-        } else if line.as_str() == "owners" {
-            case = None;
-            print!(rt; "{}", owners(rt.alloc())?)?;
+            print!(rt; "{text}")?;
         } else if let Some(open) = &mut case {
             if !open.add(line.as_str())? {
                 println!(rt; "not a line of a case: {line}")?;

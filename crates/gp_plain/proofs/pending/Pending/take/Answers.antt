@@ -9,7 +9,7 @@ pub invariant_of-self-2 : goal.invariant_of-self-2
 invariant_of-self-2 c =
     let before = c.self.inside.pieces.items in
     let count = c.measured-count.result.0 in
-    let rest = c.in_ok-given.ensures.rest in
+    let rest = c.let_room_go.ensures ∙ c.in_ok-given.ensures.rest in
     let parts = sum_by-take-drop weight before count in
     let sums = ap (sum_by weight) rest in
     let lengths = ap length rest ∙ length-drop count before in (

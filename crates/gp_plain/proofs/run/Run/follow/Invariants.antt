@@ -1,4 +1,4 @@
-use Rattle.std.proofs.Common.{◌≡◌, ◌∷◌, ◌++◌, ◌+◌, ◌-◌, [], cond, length, map, is_none}
+use Rattle.std.proofs.Common.{◌≡◌, ◌++◌, ◌+◌, ◌-◌, cond, length, map, is_none}
 use Rattle.gp_plain.specs.Growth.{IsWithin, with_pieces}
 use Rattle.gp_plain.specs.Follow.{follow}
 use Rattle.gp_plain.specs.Holds.{piece_by, ends_by, followers}
