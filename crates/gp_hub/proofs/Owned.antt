@@ -1,26 +1,30 @@
 -- What a call for a hold of one's own does.
-use Rattle.std.proofs.Common.{◌≡◌, ℕ, zero, suc, ◌+◌, ◌≤◌, ◌==◌, ◌||◌, Bool, true, false, cond, not, List, [], ◌∷◌, ◌++◌, length, filter, arith, refl, sym, ap, ◌∙◌, subst, append_assoc, append-nil, eq-eqb, slice_get, Option, Some, None, is_some, option_map}
+use Rattle.std.proofs.Common.{◌≡◌, ℕ, zero, suc, ◌+◌, ◌<◌, ◌≤◌, ◌==◌, ◌||◌, Bool, true, false, cond, not, List, [], ◌∷◌, ◌++◌, length, filter, arith, refl, sym, ap, ◌∙◌, subst, append_assoc, append-nil, eq-eqb, slice_get, Option, Some, None, is_some, option_map}
 use Rattle.std.specs.Prelude.{option_to_list}
 use Rattle.std.specs.List.{All}
 use Rattle.std.proofs.lemmas.List.Sums.{fold-append}
 use Rattle.std.proofs.lemmas.List.Elements.{filter-append, All-head, All-tail}
 use Rattle.gp_plain.specs.declared.event.Entry.{Entry}
 use Rattle.gp_plain.specs.declared.event.Event.{Event}
-use Rattle.gp_plain.specs.declared.event.Event.TheVariants.{Attach, Take, Detach}
+use Rattle.gp_plain.specs.declared.event.Event.TheVariants.{Attach, Publish, Take, Detach}
 use Rattle.gp_plain.specs.declared.event.HoldSpec.{HoldSpec}
 use Rattle.gp_plain.specs.declared.reply.Reply.{Reply}
 use Rattle.gp_plain.specs.declared.reply.Reply.TheVariants as reply
 use Rattle.gp_plain.specs.declared.reply.Taken.{Taken}
-use Rattle.gp_plain.specs.Follow.{last_items}
+use Rattle.gp_plain.specs.Pieces.{id_or}
+use Rattle.gp_plain.specs.Follow.{last_items, is_repeat}
+use Rattle.gp_plain.specs.Kinds.{TakenFits}
+use Rattle.gp_plain.specs.declared.item.Item.{Item}
 use Rattle.gp_plain.specs.Holds.{Held, begun, taken_of, taken_from, let_go}
 use Rattle.gp_plain.specs.History as history
-use Rattle.gp_plain.specs.History.{Past, has_place, if_kept, kept_at, refused_or, changed_if, changed, with_hold, after_event, after, nothing, past_of, held}
+use Rattle.gp_plain.specs.History.{Past, has_place, if_kept, kept_at, refused_or, changed_if, changed, with_hold, after_event, after, nothing, past_of, held, grown_count}
 use Rattle.gp_plain.specs.Others.{Share, share_of, share_at, shares_from, shares, IsOfAnother}
-use Rattle.gp_plain.proofs.OthersLaw.{differs, others_law_holds, owners_law_holds}
+use Rattle.gp_plain.proofs.OthersLaw.{differs, others_law_holds, owners_law_holds, published_shares, share_if}
+use Rattle.gp_plain.proofs.KindLaws.{kind_law_holds}
 use Rattle.gp_turn.proofs.Owners.{others_by_number}
 use Rattle.gp_hub.specs.Passes.{HubView, GoesOnFrom, IsSame, entry_of, who_of}
 use Rattle.gp_hub.specs.Calls.{HasCalled}
-use Rattle.gp_hub.specs.Own.{Keeps, HasMade, HasNewHold, HasAttached, HasTaken, HasDetached, fresh_share, share_with, attach_reply}
+use Rattle.gp_hub.specs.Own.{Keeps, HasMade, HasNewHold, HasAttached, HasTaken, HasDetached, HasPublished, FreshLaw, fresh_share, share_with, share_gone, with_share, attach_reply, publish_reply}
 
 same_some : {A : Type 0} {x y : A} → Some x ≡ Some y → x ≡ y
 same_some e = cc
@@ -96,16 +100,20 @@ changed_at who f [] hold h there kept own = absurd (no_some there)
 changed_at who f (x ∷ xs) zero h there kept own = ap Some (ap (changed_if who f) (same_some there) ∙ own_changed who f h kept own)
 changed_at who f (x ∷ xs) (suc hold) h there kept own = changed_at who f xs hold h there kept own
 
-record OwnCall (q : HubView) (hold : ℕ) (r : Reply) (answer : Held → Reply) (f : Held → Held) (s : Share) : Type 0 where
+record OwnCall (p q : HubView) (before : List Entry) (hold : ℕ) (r : Reply) (answer : Held → Reply) (f : Held → Held) (s : Share) : Type 0 where
   h : Held
   is : share_of h ≡ s
+  there : slice_get (held before) hold ≡ Some h
+  own : h.owner ≡ p.number
+  kept : h.released ≡ false
+  holds : held q.seen ≡ changed p.number hold f (held before)
   replied : r ≡ answer h
   now : slice_get (held q.seen) hold ≡ Some (f h)
 
-own_call : (p q : HubView) (hold : ℕ) (event : Event) (r : Reply) (answer : Held → Reply) (f : Held → Held) (k : Keeps p hold) → IsSame p q → HasCalled p q event r
+own_call : (p q : HubView) (hold : ℕ) (event : Event) (r : Reply) (answer : Held → Reply) (f : Held → Held) (k : Keeps p hold) → IsSame p q → (c : HasCalled p q event r)
     → ((past : Past) → history.answer past p.number event ≡ refused_or p.number hold (kept_at past.holds hold) answer)
     → ((past : Past) → (after_event past p.number event).holds ≡ changed p.number hold f past.holds)
-    → OwnCall q hold r answer f k.share
+    → OwnCall p q c.before hold r answer f k.share
 own_call p q hold event r answer f k same c answers changes =
     let st : Stands (held c.before) hold k.share = stands p c.before hold k.share c.goes_on same.some k.there k.own in
     let own : st.h.owner ≡ p.number = ap (λ (s : Share). s.owner) st.is ∙ k.own in
@@ -115,17 +123,76 @@ own_call p q hold event r answer f k same c answers changes =
     record {
       h = st.h;
       is = st.is;
+      there = st.there;
+      own = own;
+      kept = kept;
+      holds = holds;
       replied = c.reply_is ∙ answers (past_of c.before) ∙ kept_reply (held c.before) p.number hold st.h answer st.there kept own;
       now = ap (λ (hs : List Held). slice_get hs hold) holds ∙ changed_at p.number f (held c.before) hold st.h st.there kept own;
     }
+
+-- the list of the shares of the pass
+
+shares_before : (p q : HubView) (before : List Entry) → IsSame p q → GoesOnFrom p before → shares p.number before ≡ shares p.number p.seen
+shares_before p q before same c = ap (shares p.number) c.is ∙ owners_law_holds p.seen c.more p.number (others_of p before c same.some)
+
+later_by : (j m : ℕ) (g : Share → Share) (h : Held) (rest : List (ℕ × Share)) (own : Bool) → (j == m) ≡ false → with_share m g rest ≡ rest
+    → with_share m g (cond own ((j, share_of h) ∷ rest) rest) ≡ cond own ((j, share_of h) ∷ rest) rest
+later_by j m g h rest true e same = ap (λ b. cond b (j, g (share_of h)) (j, share_of h) ∷ with_share m g rest) e ∙ ap (λ xs. (j, share_of h) ∷ xs) same
+later_by j m g h rest false e same = same
+
+later_stay : (owner j m : ℕ) (g : Share → Share) (hs : List Held) → m < j → with_share m g (shares_from owner j hs) ≡ shares_from owner j hs
+later_stay owner j m g [] less = refl
+later_stay owner j m g (h ∷ hs) less =
+    later_by j m g h (shares_from owner (j + 1) hs) (h.owner == owner) (differs j m (λ e. absurd (omega (arith, e, less)))) (later_stay owner (j + 1) m g hs (omega (arith, less)))
+
+head_stays : (k m : ℕ) (g : Share → Share) (h : Held) (rest : List (ℕ × Share)) (own : Bool) → (k == m) ≡ false
+    → with_share m g (cond own ((k, share_of h) ∷ rest) rest) ≡ cond own ((k, share_of h) ∷ with_share m g rest) (with_share m g rest)
+head_stays k m g h rest true e = ap (λ b. cond b (k, g (share_of h)) (k, share_of h) ∷ with_share m g rest) e
+head_stays k m g h rest false e = refl
+
+shares_changed : (owner k m : ℕ) (f : Held → Held) (g : Share → Share) (hs : List Held) (h : Held) → slice_get hs m ≡ Some h → h.released ≡ false → h.owner ≡ owner
+    → (f h).owner ≡ h.owner → share_of (f h) ≡ g (share_of h) → shares_from owner k (changed owner m f hs) ≡ with_share (k + m) g (shares_from owner k hs)
+shares_changed owner k m f g [] h there kept own same is = absurd (no_some there)
+shares_changed owner k zero f g (x ∷ xs) h there kept own same is =
+    let here : x ≡ h = same_some there in
+    let rest = shares_from owner (k + 1) xs in
+    let place : k + 0 ≡ k = omega arith in
+    let left : share_if owner k (changed_if owner f x) rest ≡ (k, g (share_of h)) ∷ rest =
+    ap (λ (y : Held). share_if owner k y rest) (ap (changed_if owner f) here ∙ own_changed owner f h kept own)
+    ∙ ap (λ b. cond b ((k, share_of (f h)) ∷ rest) rest) (eq-eqb (f h).owner owner (same ∙ own))
+    ∙ ap (λ s. (k, s) ∷ rest) is in
+    let right : with_share (k + 0) g (share_if owner k x rest) ≡ (k, g (share_of h)) ∷ rest =
+    ap (λ n. with_share n g (share_if owner k x rest)) place
+    ∙ ap (λ (y : Held). with_share k g (share_if owner k y rest)) here
+    ∙ ap (λ b. with_share k g (cond b ((k, share_of h) ∷ rest) rest)) (eq-eqb h.owner owner own)
+    ∙ ap (λ b. cond b (k, g (share_of h)) (k, share_of h) ∷ with_share k g rest) (eq-eqb k k refl)
+    ∙ ap (λ ys. (k, g (share_of h)) ∷ ys) (later_stay owner (k + 1) k g xs (omega arith)) in
+    left ∙ sym right
+shares_changed owner k (suc m) f g (x ∷ xs) h there kept own same is =
+    let rest = shares_from owner (k + 1) xs in
+    let place : (k + 1) + m ≡ k + suc m = omega arith in
+    ap (share_if owner k x) (shares_changed owner (k + 1) m f g xs h there kept own same is)
+    ∙ ap (λ n. share_if owner k x (with_share n g rest)) place
+    ∙ sym (head_stays k (k + suc m) g x rest (x.owner == owner) (differs k (k + suc m) (λ e. absurd (omega (arith, e)))))
+
+own_shares : (p q : HubView) (before : List Entry) (hold : ℕ) (r : Reply) (answer : Held → Reply) (f : Held → Held) (g : Share → Share) (s : Share) → IsSame p q → GoesOnFrom p before
+    → (o : OwnCall p q before hold r answer f s) → (f o.h).owner ≡ o.h.owner → share_of (f o.h) ≡ g (share_of o.h)
+    → shares p.number q.seen ≡ with_share hold g (shares p.number p.seen)
+own_shares p q before hold r answer f g s same c o owner is =
+    let place : 0 + hold ≡ hold = omega arith in
+    ap (shares_from p.number 0) o.holds
+    ∙ shares_changed p.number 0 hold f g (held before) o.h o.there o.kept o.own owner is
+    ∙ ap (λ n. with_share n g (shares p.number before)) place
+    ∙ ap (with_share hold g) (shares_before p q before same c)
 
 -- a Take
 
 same_taken : {a b : Taken} → reply.Taken a ≡ reply.Taken b → a ≡ b
 same_taken e = cc
 
-take_call : (p q : HubView) (hold now : ℕ) (r : Reply) (k : Keeps p hold) → IsSame p q → HasCalled p q (Take hold now) r
-    → OwnCall q hold r (λ (h : Held). reply.Taken (taken_of now h.state)) (taken_from now) k.share
+take_call : (p q : HubView) (hold now : ℕ) (r : Reply) (k : Keeps p hold) → IsSame p q → (c : HasCalled p q (Take hold now) r)
+    → OwnCall p q c.before hold r (λ (h : Held). reply.Taken (taken_of now h.state)) (taken_from now) k.share
 take_call p q hold now r k same c =
     own_call p q hold (Take hold now) r (λ (h : Held). reply.Taken (taken_of now h.state)) (taken_from now) k same c (λ past. refl) (λ past. refl)
 
@@ -147,6 +214,11 @@ took p q hold now t k same c =
     ap (option_map share_of) o.now ∙ ap Some (share_after o.h (taken_of now o.h.state) k.share o.is k.kept ∙ ap (share_with k.share) (sym gave)) in
     record {
       made = made p q (Take hold now) (reply.Taken t) same c;
+      fits = λ before is.
+          let spec : o.h.spec ≡ before.spec = ap (λ (s : Share). s.spec) (o.is ∙ same_some (sym k.there ∙ is)) in
+          subst (λ (x : Taken). TakenFits before.spec x) (sym gave) (subst (λ (x : HoldSpec). TakenFits x (taken_of now o.h.state)) spec (kind_law_holds c.before hold now o.h o.there o.kept));
+      shares = own_shares p q c.before hold (reply.Taken t) (λ (h : Held). reply.Taken (taken_of now h.state)) (taken_from now) (λ s. share_with s t) k.share same c.goes_on o refl
+          (share_after o.h (taken_of now o.h.state) (share_of o.h) refl o.kept ∙ ap (share_with (share_of o.h)) (sym gave));
       share = λ before is. share ∙ ap (λ (s : Share). Some (share_with s t)) (same_some (sym k.there ∙ is));
       keeps = λ e. record { share = share_with k.share t; there = share; own = k.own ∙ sym same.number; kept = ap is_some e };
     }
@@ -156,11 +228,11 @@ took p q hold now t k same c =
 pub detached : (p q : HubView) (hold : ℕ) (r : Reply) → Keeps p hold → IsSame p q → HasCalled p q (Detach hold) r → HasDetached p q hold
 detached p q hold r k same c =
     let o = own_call p q hold (Detach hold) r (λ (h : Held). reply.Done) let_go k same c (λ past. refl) (λ past. refl) in
-    let gone : Share → Share = λ (s : Share). record s { released = true } in
-    let share : share_at (held q.seen) hold ≡ Some (gone k.share) = ap (option_map share_of) o.now ∙ ap (λ (s : Share). Some (gone s)) o.is in
+    let share : share_at (held q.seen) hold ≡ Some (share_gone k.share) = ap (option_map share_of) o.now ∙ ap (λ (s : Share). Some (share_gone s)) o.is in
     record {
       made = made p q (Detach hold) reply.Done same (subst (HasCalled p q (Detach hold)) o.replied c);
-      share = λ before is. share ∙ ap (λ (s : Share). Some (gone s)) (same_some (sym k.there ∙ is));
+      shares = own_shares p q c.before hold r (λ (h : Held). reply.Done) let_go share_gone k.share same c.goes_on o refl refl;
+      share = λ before is. share ∙ ap (λ (s : Share). Some (share_gone s)) (same_some (sym k.there ∙ is));
     }
 
 -- an Attach
@@ -205,8 +277,7 @@ new_hold p q spec hold same c =
     let share : share_at (held q.seen) hold ≡ Some (fresh_share p.number spec) =
     ap (λ (hs : List Held). share_at hs hold) holds ∙ ap (λ n. share_at (past.holds ++ h ∷ []) n) at.0 ∙ ap (option_map share_of) (new_at past.holds h) in
     let number : 0 + length past.holds ≡ hold = omega (arith, at.0) in
-    let mine_is : shares p.number c.before ≡ shares p.number p.seen =
-    ap (shares p.number) c.goes_on.is ∙ owners_law_holds p.seen c.goes_on.more p.number (others_of p c.before c.goes_on same.some) in
+    let mine_is = shares_before p q c.before same c.goes_on in
     record {
       made = made p q (Attach spec) (reply.Attached hold) same c;
       share = share;
@@ -215,6 +286,46 @@ new_hold p q spec hold same c =
           ∙ ap (λ xs. xs ++ (hold, fresh_share p.number spec) ∷ []) mine_is;
     }
 
+full_shares : (owner : ℕ) (past : Past) (h : Held) (place : Bool) → reply.Full 4096 ≡ cond place (reply.Attached (length past.holds)) (reply.Full 4096)
+    → shares_from owner 0 (cond place (with_hold past h) past).holds ≡ shares_from owner 0 past.holds
+full_shares owner past h true e = absurd cc
+full_shares owner past h false e = refl
+
 pub attached : (p q : HubView) (spec : HoldSpec) (hold : Option ℕ) → IsSame p q → HasCalled p q (Attach spec) (attach_reply hold) → HasAttached p q spec hold
 attached p q spec (Some hold) same c = new_hold p q spec hold same c
-attached p q spec None same c = made p q (Attach spec) (reply.Full 4096) same c
+attached p q spec None same c = record {
+  made = made p q (Attach spec) (reply.Full 4096) same c;
+  shares = ap (shares p.number) c.seen
+      ∙ ap (λ (past : Past). shares_from p.number 0 past.holds) (after_last c.before p.number (Attach spec))
+      ∙ full_shares p.number (past_of c.before) (begun p.number spec (last_items (past_of c.before).published)) (has_place (held c.before)) c.reply_is
+      ∙ shares_before p q c.before same c.goes_on;
+}
+
+-- a Publish
+
+publish_by : (id : List ℕ) (n : ℕ) (r : Reply) (repeat : Bool) → r ≡ cond repeat (reply.Repeat id) (reply.Published n) → (count : Option ℕ) × (r ≡ publish_reply id count)
+publish_by id n r true e = (None, e)
+publish_by id n r false e = (Some n, e)
+
+pub publish_answers : (p q : HubView) (item : Item) (r : Reply) → HasCalled p q (Publish item) r → (count : Option ℕ) × (r ≡ publish_reply (id_or item.id []) count)
+publish_answers p q item r c =
+    let past = past_of c.before in
+    publish_by (id_or item.id []) (grown_count past item) r (is_repeat (last_items past.published) item) c.reply_is
+
+pub published : (p q : HubView) (item : Item) (count : Option ℕ) → IsSame p q → HasCalled p q (Publish item) (publish_reply (id_or item.id []) count) → HasPublished p q item count
+published p q item count same c =
+    let past = past_of c.before in
+    record {
+      made = made p q (Publish item) (publish_reply (id_or item.id []) count) same c;
+      shares = ap (shares p.number) c.seen
+          ∙ ap (λ (past : Past). shares_from p.number 0 past.holds) (after_last c.before p.number (Publish item))
+          ∙ published_shares p.number past item (is_repeat (last_items past.published) item)
+          ∙ shares_before p q c.before same c.goes_on;
+    }
+
+-- a fresh pass
+
+pub fresh_law_holds : FreshLaw
+fresh_law_holds = λ p some none.
+    let all = others_by_number who_of p p.seen some none in
+    (none_own p.number p.seen all, owners_law_holds [] p.seen p.number all)

@@ -1,8 +1,11 @@
 -- A pass and the holds of its own.
-use Rattle.std.specs.Prelude.{ℕ, ◌≡◌, ◌==◌, true, false, List, [], ◌∷◌, ◌++◌, filter, Option, Some, None, is_some, option_to_list}
+use Rattle.std.specs.Prelude.{ℕ, ◌≡◌, ◌≤◌, ◌==◌, true, false, List, [], ◌∷◌, ◌++◌, filter, map, cond, Option, Some, None, is_some, option_to_list}
 use mathlib.Core.List.{IsPrefix}
 use Rattle.gp_plain.specs.History.{held}
+use Rattle.gp_plain.specs.Pieces.{id_or}
+use Rattle.gp_plain.specs.Kinds.{TakenFits}
 use Rattle.gp_plain.specs.Others.{Share, share_at, shares}
+use Rattle.gp_plain.specs.declared.item.Item.{Item}
 use Rattle.gp_plain.specs.declared.event.Entry.{Entry}
 use Rattle.gp_plain.specs.declared.event.Event.{Event}
 use Rattle.gp_plain.specs.declared.event.Event.TheVariants as event
@@ -10,7 +13,8 @@ use Rattle.gp_plain.specs.declared.event.HoldSpec.{HoldSpec}
 use Rattle.gp_plain.specs.declared.reply.Reply.{Reply}
 use Rattle.gp_plain.specs.declared.reply.Reply.TheVariants as reply
 use Rattle.gp_plain.specs.declared.reply.Taken.{Taken}
-use Rattle.gp_hub.specs.Passes.{HubView, entry_of}
+use Rattle.gp_turn.specs.Passes.{OfOthers, ranges_of}
+use Rattle.gp_hub.specs.Passes.{HubView, entry_of, who_of}
 use Rattle.gp_hub.specs.Calls.{HasCalled}
 
 -- the entries that a pass made
@@ -40,10 +44,15 @@ pub record HasNewHold (p q : HubView) (spec : HoldSpec) (hold : ℕ) : Type 0 wh
   pub keeps : Keeps q hold
   pub shares : shares p.number q.seen ≡ shares p.number p.seen ++ (hold, fresh_share p.number spec) ∷ []
 
+-- 4,096 holds are kept, and the pass has no other than before
+pub record HasNoPlace (p q : HubView) (spec : HoldSpec) : Type 0 where
+  pub made : HasMade p q (event.Attach spec) (reply.Full 4096)
+  pub shares : shares p.number q.seen ≡ shares p.number p.seen
+
 -- an Attach made a hold, or 4,096 are kept
 abbrev pub HasAttached : HubView → HubView → HoldSpec → Option ℕ → Type 0
 HasAttached p q spec (Some hold) = HasNewHold p q spec hold
-HasAttached p q spec None = HasMade p q (event.Attach spec) (reply.Full 4096)
+HasAttached p q spec None = HasNoPlace p q spec
 
 abbrev pub attach_reply : Option ℕ → Reply
 attach_reply (Some hold) = reply.Attached hold
@@ -53,12 +62,40 @@ attach_reply None = reply.Full 4096
 abbrev pub share_with : Share → Taken → Share
 share_with s t = record s { taken = s.taken ++ t.pieces; recovers = s.recovers ++ option_to_list t.recover; told = t.ended; released = is_some t.ended }
 
+-- one hold of a list has changed, and the others are as they were
+abbrev pub change_share : ℕ → (Share → Share) → (ℕ × Share) → (ℕ × Share)
+change_share hold change s = cond (s.0 == hold) (s.0, change s.1) s
+
+abbrev pub with_share : ℕ → (Share → Share) → List (ℕ × Share) → List (ℕ × Share)
+with_share hold change shares = map (change_share hold change) shares
+
+-- what was given fits what the hold was attached with
 pub record HasTaken (p q : HubView) (hold now : ℕ) (taken : Taken) : Type 0 where
   pub made : HasMade p q (event.Take hold now) (reply.Taken taken)
+  pub fits : (before : Share) → share_at (held p.seen) hold ≡ Some before → TakenFits before.spec taken
+  pub shares : shares p.number q.seen ≡ with_share hold (λ s. share_with s taken) (shares p.number p.seen)
   pub share : (before : Share) → share_at (held p.seen) hold ≡ Some before → share_at (held q.seen) hold ≡ Some (share_with before taken)
   pub keeps : taken.ended ≡ None → Keeps q hold
 
 -- a Detach let a hold of the pass go
+abbrev pub share_gone : Share → Share
+share_gone s = record s { released = true }
+
 pub record HasDetached (p q : HubView) (hold : ℕ) : Type 0 where
   pub made : HasMade p q (event.Detach hold) reply.Done
-  pub share : (before : Share) → share_at (held p.seen) hold ≡ Some before → share_at (held q.seen) hold ≡ Some (record before { released = true })
+  pub shares : shares p.number q.seen ≡ with_share hold share_gone (shares p.number p.seen)
+  pub share : (before : Share) → share_at (held p.seen) hold ≡ Some before → share_at (held q.seen) hold ≡ Some (share_gone before)
+
+-- an item was published, and so many logs grew; or it is a repeat
+abbrev pub publish_reply : List ℕ → Option ℕ → Reply
+publish_reply id (Some count) = reply.Published count
+publish_reply id None = reply.Repeat id
+
+-- the holds of the pass are as they were, but for what waits for them
+pub record HasPublished (p q : HubView) (item : Item) (count : Option ℕ) : Type 0 where
+  pub made : HasMade p q (event.Publish item) (publish_reply (id_or item.id []) count)
+  pub shares : shares p.number q.seen ≡ shares p.number p.seen
+
+-- a pass none of whose numbers made an entry that it has seen has neither entries nor holds of its own
+abbrev pub FreshLaw : Type 0
+FreshLaw = (p : HubView) → 1 ≤ p.spare → OfOthers who_of (ranges_of p) p.seen → (mine p ≡ []) × (shares p.number p.seen ≡ [])

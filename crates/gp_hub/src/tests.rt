@@ -1,111 +1,11 @@
-ghost use Rattle.std.specs.Prelude.{◌≡◌, ◌+◌, ◌^◌, ◌<◌, true, IfOk};
-ghost use Rattle.gp_plain.specs.Fit.{fits};
-ghost use Rattle.gp_hub.specs.Passes.{IsSame};
+ghost use Rattle.std.specs.Prelude.{◌≡◌, ◌+◌};
 
-use crate::{Hub, HubFault, HubPass, Polled, Session};
-use gp_plain::{Body, Event, HoldSpec, Item, ItemId, List, Name, Reply, StreamPart};
+use crate::{Hub, HubFault, HubPass};
+use gp_plain::{Body, Event, HoldSpec, Item, List, Name, Reply, StreamPart};
 use std::alloc::Global;
-use std::process::Abort;
 use std::test::*;
 use std::thread;
 use std::thread::Threads;
-
-fn stream(alloc: Global) -> Result<HoldSpec, Fail>
-    ensures { IfOk result (λ spec. fits (Event.Attach spec) ≡ true) }
-{
-    Ok(HoldSpec::Stream {
-        opening: Body::new(alloc, b"hi")?,
-        channel: Name::new(alloc, b"news")?,
-        prev: ItemId::new(alloc, b"a")?,
-        link: true,
-    })
-}
-
-fn item(alloc: Global, id: &[u8], prev: &[u8]) -> Result<Item, Fail> {
-    Ok(Item {
-        channel: Name::new(alloc, b"news")?,
-        id: Some(ItemId::new(alloc, id)?),
-        prev: Some(ItemId::new(alloc, prev)?),
-        response: None,
-        stream: Some(StreamPart::Content(Body::new(alloc, b"x")?)),
-        message: None,
-    })
-}
-
-/// A reply as it is compared: its name and its number, and of a Take how many pieces it gave.
-fn shown(reply: &Reply) -> (&'static str, u64) {
-    match reply {
-        Reply::Attached(number) => ("attached", *number),
-        Reply::Published(count) => ("published", u64::from(*count)),
-        Reply::Taken(taken) => ("taken", taken.pieces.len() as u64),
-        Reply::Done => ("done", 0),
-        Reply::Foreign(owner) => ("foreign", *owner),
-        Reply::Unknown(number) => ("unknown", *number),
-        _ => ("other", 0),
-    }
-}
-
-fn shown_fault(fault: &HubFault) -> (&'static str, u64) {
-    match fault {
-        HubFault::Busy(_, word) => ("busy", *word),
-        HubFault::Worn(_) => ("worn", 0),
-        HubFault::NoMemory(_) => ("no memory", 0),
-    }
-}
-
-fn answer(rt: &impl Abort, hub: &Hub, pass: &mut HubPass, event: Event) -> (&'static str, u64)
-    requires { pass.old.turn ≡ hub.now }
-    ensures { IsSame pass.old pass.new }
-{
-    assert!(rt; event.fits());
-    match hub.call(pass, event) {
-        Ok(reply) => shown(&reply),
-        Err(fault) => shown_fault(&fault),
-    }
-}
-
-#[test]
-fn a_hold_is_foreign_to_another_pass(rt: HostRuntime) -> Result<(), Fail> {
-    let alloc = rt.alloc();
-    let (hub, mut first) = Hub::new(alloc)?;
-    let mut second = hub.split(&mut first, 10)?;
-    let numbers = (second.number(), second.spare(), second.parts());
-    assert_eq!(rt; numbers, (9223372036854775798, 10, 10));
-    let attach = Event::Attach {
-        spec: stream(alloc)?,
-    };
-    assert_eq!(rt; answer(&rt, &hub, &mut first, attach), ("attached", 0));
-    let take = Event::Take { hold: 0, now: 0 };
-    assert_eq!(rt; answer(&rt, &hub, &mut second, take), ("foreign", 0));
-    hub.join(second, &mut first);
-    let registry = hub.close(first);
-    assert_eq!(rt; registry.kept(), 1);
-    assert_eq!(rt; registry.pending(0)?.len(), 1);
-    Ok(())
-}
-
-#[test]
-fn a_pass_takes_its_own_hold_and_lets_it_go(rt: HostRuntime) -> Result<(), Fail> {
-    let alloc = rt.alloc();
-    let (hub, mut pass) = Hub::new(alloc)?;
-    let mut other = hub.split(&mut pass, 1)?;
-    let Ok(Some(hold)) = hub.attach(&mut pass, stream(alloc)?) else {
-        panic!(rt; "it has a hold");
-    };
-    let publish = Event::Publish {
-        item: item(alloc, b"b", b"a")?,
-    };
-    assert_eq!(rt; answer(&rt, &hub, &mut other, publish), ("published", 1));
-    let Ok(taken) = hub.take(&mut pass, hold, 0) else {
-        panic!(rt; "it takes of its hold");
-    };
-    assert_eq!(rt; (hold, taken.pieces.len()), (0, 2));
-    assert!(rt; taken.ended.is_none());
-    assert!(rt; hub.detach(&mut pass, hold).is_ok());
-    hub.join(other, &mut pass);
-    assert_eq!(rt; hub.close(pass).kept(), 0);
-    Ok(())
-}
 
 /// How often a call that finds the turn taken is made again.
 const TRIES: u64 = 10_000_000;
@@ -228,19 +128,15 @@ fn work_both<R: Threads + Sync>(
     (one, first, second)
 }
 
-fn added(all: [Option<Counts>; 4]) -> Option<Counts> {
-    let mut sum = Counts {
-        holds: 0,
-        brought: 0,
-        took: 0,
-    };
-    for counts in all {
-        let counts = counts?;
-        sum.holds = sum.holds.saturating_add(counts.holds);
-        sum.brought = sum.brought.saturating_add(counts.brought);
-        sum.took = sum.took.saturating_add(counts.took);
-    }
-    Some(sum)
+/// The counts of two threads together.
+fn plus(one: Option<Counts>, other: Option<Counts>) -> Option<Counts> {
+    let one = one?;
+    let other = other?;
+    Some(Counts {
+        holds: one.holds.saturating_add(other.holds),
+        brought: one.brought.saturating_add(other.brought),
+        took: one.took.saturating_add(other.took),
+    })
 }
 
 #[test]
@@ -257,7 +153,7 @@ fn four_threads_make_one_history(rt: HostRuntime) -> Result<(), Fail> {
     );
     hub.join(right, &mut left);
     let registry = hub.close(left);
-    let Some(sum) = added([a, b, c, d]) else {
+    let Some(sum) = plus(plus(a, b), plus(c, d)) else {
         panic!(rt; "each call is served in time");
     };
     assert_eq!(rt; (sum.holds, u64::from(registry.kept())), (4, 4));
@@ -270,35 +166,4 @@ fn four_threads_make_one_history(rt: HostRuntime) -> Result<(), Fail> {
         sum.brought.saturating_add(sum.holds)
     );
     Ok(())
-}
-
-/// A session that ends at the last of so many polls.
-#[derive(Drop)]
-struct Countdown {
-    left: u64,
-}
-
-impl Session for Countdown {
-    type Output = u64;
-
-    ghost ended = { λ session. session.left ≡ 0 };
-
-    ghost may_give = { λ _ output. output ≡ 7 };
-
-    fn poll(&mut self) -> Polled<u64> {
-        self.left -= 1;
-        match self.left {
-            0 => Polled::Ready(7),
-            _ => Polled::Pending,
-        }
-    }
-}
-
-#[test]
-fn a_session_is_polled_until_it_gives_its_output(rt: HostRuntime) {
-    let mut session = Countdown { left: 2 };
-    let first = session.poll();
-    assert!(rt; matches!(first, Polled::Pending), "it goes on");
-    let second = session.poll();
-    assert!(rt; matches!(second, Polled::Ready(7)), "it has ended");
 }

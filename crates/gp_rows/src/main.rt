@@ -8,12 +8,14 @@
 
 mod case;
 mod owners;
+mod passes;
 mod plain;
 mod shown;
 mod texts;
 
 use case::Case;
 use owners::owners;
+use passes::passes;
 use plain::{copies, lists, names, tallies};
 use std::alloc::{AllocError, Global};
 use std::io;
@@ -30,6 +32,7 @@ fn named(alloc: Global, name: &str) -> Result<Option<String>, AllocError> {
     match name {
         "texts" => Ok(Some(texts(alloc)?)),
         "owners" => Ok(Some(owners(alloc)?)),
+        "passes" => Ok(Some(passes(alloc)?)),
         "names" => Ok(Some(names(alloc)?)),
         "copies" => Ok(Some(copies(alloc)?)),
         "lists" => Ok(Some(lists(alloc)?)),
