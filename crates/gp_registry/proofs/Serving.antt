@@ -27,9 +27,9 @@ served_by item before after s false = ap (λ b. settled_if b after s) (not_less 
 
 pub served_is : (item : Item) (before after : List Item) (h : Hold) → IsStaged item before h → committed after h ≡ served_kept item before after (kept_hold h)
 served_is item before after h st =
-    let s = state_of h.machine in
+    let s = state_of h.machine.value in
     ap (λ (t : State). let k : Kept = record { number = h.number; owner = h.owner; state = t } in k)
-    (ap (λ b. settled_if b after (staged h.machine)) st.told ∙ ap (settled_if (grew s (offered_if item before s)) after) st.effect ∙ served_by item before after s (is_live s))
+    (ap (λ b. settled_if b after (staged h.machine.value)) st.told ∙ ap (settled_if (grew s (offered_if item before s)) after) st.effect ∙ served_by item before after s (is_live s))
 
 settled_pending : (went_on : Bool) (window : List Item) (s : State) → (settled_if went_on window s).pending ≡ s.pending
 settled_pending true window s = refl
@@ -40,8 +40,8 @@ grew_by : (item : Item) (before after : List Item) (s : State) (live : Bool)
 grew_by item before after s true = let next = offered item before s in ap (λ ps. nat_lt (length s.pending) (length ps)) (sym (settled_pending (grew s next) after next))
 grew_by item before after s false = refl
 
-grew_is : (item : Item) (before after : List Item) (h : Hold) → IsStaged item before h → appends h.machine ≡ grew_kept (kept_hold h) (served_kept item before after (kept_hold h))
-grew_is item before after h st = st.told ∙ grew_by item before after (state_of h.machine) (is_live (state_of h.machine))
+grew_is : (item : Item) (before after : List Item) (h : Hold) → IsStaged item before h → appends h.machine.value ≡ grew_kept (kept_hold h) (served_kept item before after (kept_hold h))
+grew_is item before after h st = st.told ∙ grew_by item before after (state_of h.machine.value) (is_live (state_of h.machine.value))
 
 committed_rec : (item : Item) (before after : List Item) (hs : List Hold) → AllByRecursion (IsStaged item before) hs → map (committed after) hs ≡ map (served_kept item before after) (map kept_hold hs)
 committed_rec item before after [] all = refl
@@ -51,20 +51,20 @@ committed_is : (item : Item) (before after : List Item) (hs : List Hold) → All
 committed_is item before after hs all = committed_rec item before after hs (recursion_from_All (IsStaged item before) hs all)
 
 grown_rec : (item : Item) (before after : List Item) (n : ℕ) (hs : List Hold) → AllByRecursion (IsStaged item before) hs
-    → fold (λ (a : ℕ) (h : Hold). a + cond (appends h.machine) 1 0) n hs ≡ fold (λ (a : ℕ) (k : Kept). a + cond (grew_kept k (served_kept item before after k)) 1 0) n (map kept_hold hs)
+    → fold (λ (a : ℕ) (h : Hold). a + cond (appends h.machine.value) 1 0) n hs ≡ fold (λ (a : ℕ) (k : Kept). a + cond (grew_kept k (served_kept item before after k)) 1 0) n (map kept_hold hs)
 grown_rec item before after n [] all = refl
 grown_rec item before after n (h ∷ hs) all =
-    ap (λ b. fold (λ (a : ℕ) (h : Hold). a + cond (appends h.machine) 1 0) (n + cond b 1 0) hs) (grew_is item before after h all.0)
+    ap (λ b. fold (λ (a : ℕ) (h : Hold). a + cond (appends h.machine.value) 1 0) (n + cond b 1 0) hs) (grew_is item before after h all.0)
     ∙ grown_rec item before after (n + cond (grew_kept (kept_hold h) (served_kept item before after (kept_hold h))) 1 0) hs all.1
 
 grown_is : (item : Item) (before after : List Item) (hs : List Hold) → All (IsStaged item before) hs
-    → count_by (λ (h : Hold). appends h.machine) hs ≡ count_by (λ (k : Kept). grew_kept k (served_kept item before after k)) (map kept_hold hs)
+    → count_by (λ (h : Hold). appends h.machine.value) hs ≡ count_by (λ (k : Kept). grew_kept k (served_kept item before after k)) (map kept_hold hs)
 grown_is item before after hs all = grown_rec item before after 0 hs (recursion_from_All (IsStaged item before) hs all)
 
 -- planned and carried out, the item is published
 pub published_is : (item : Item) (who n g : ℕ) (before after : List Item) (was ready done : List Hold) (s : Standing)
     → standing_now before n was ≡ s → is_repeat before item ≡ false → after ≡ pushed before item → map kept_hold ready ≡ map kept_hold was → All (IsStaged item before) ready
-    → map kept_hold done ≡ map (committed after) ready → g ≡ count_by (λ (h : Hold). appends h.machine) ready
+    → map kept_hold done ≡ map (committed after) ready → g ≡ count_by (λ (h : Hold). appends h.machine.value) ready
     → (Published g ≡ answered s who (Publish item)) × (standing_now after n done ≡ stepped s who (Publish item))
 published_is item who n g before after was ready done s view new push same all kept grew =
     let w : before ≡ s.window = ap (λ (t : Standing). t.window) view in

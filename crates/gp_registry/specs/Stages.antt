@@ -19,7 +19,7 @@ state_of (Plain hold plan) = hold.state
 state_of (Response hold plan) = hold.state
 
 abbrev pub kept_hold : Hold → Kept
-kept_hold h = record { number = h.number; owner = h.owner; state = state_of h.machine }
+kept_hold h = record { number = h.number; owner = h.owner; state = state_of h.machine.value }
 
 abbrev pub number_of : Hold → ℕ
 number_of h = h.number
@@ -67,11 +67,11 @@ IsReadyHold (Plain hold plan) = IsPlainReadyIf hold plan
 IsReadyHold (Response hold plan) = IsReadyIf hold plan
 
 abbrev pub HasRoom : Hold → Type 0
-HasRoom h = IsReadyHold h.machine
+HasRoom h = IsReadyHold h.machine.value
 
 -- a hold once its plan is carried out, and its marks are settled by a window
 abbrev pub committed : List Item → Hold → Kept
-committed window h = record (kept_hold h) { state = settled_if (appends h.machine) window (staged h.machine) }
+committed window h = record (kept_hold h) { state = settled_if (appends h.machine.value) window (staged h.machine.value) }
 
 -- the same for a hold with plans of one form
 pub record IsStreamStaged (item : Item) (window : List Item) (m : Machine) (plan : Option Plan) : Type 0 where
@@ -91,7 +91,7 @@ pub record IsStagedBy (item : Item) (window : List Item) (m : HoldMachine) : Typ
   pub told : appends m ≡ grew (state_of m) (offered_if item window (state_of m))
 
 abbrev pub IsStaged : Item → List Item → Hold → Type 0
-IsStaged item window h = IsStagedBy item window h.machine
+IsStaged item window h = IsStagedBy item window h.machine.value
 
 -- the registry, as it is seen
 abbrev pub standing_now : List Item → ℕ → List Hold → Standing

@@ -14,11 +14,18 @@ pub struct Hold {
     pub number: u64,
     /// Who attached it.
     pub owner: u64,
-    /// What it does.
-    pub machine: HoldMachine,
+    /// What it does. It is boxed, so that a release moves little of the holds behind it.
+    pub machine: Box<HoldMachine>,
 }
 
 impl Hold {
+    /// Its machine.
+    pub fn machine(&self) -> &HoldMachine
+        ensures { result.now ≡ self.now.machine.value }
+    {
+        &self.machine
+    }
+
     /// Plans what an item does. The hold stays as it is.
     pub fn stage(&mut self, item: &Item, window: &Window) -> Result<(), AllocError>
         ensures same { kept_hold self.new ≡ kept_hold self.old }
@@ -31,7 +38,7 @@ impl Hold {
     pub fn commit(&mut self, window: &Window) -> bool
         requires { HasRoom self.old }
         ensures kept { kept_hold self.new ≡ committed window.now.items self.old }
-        ensures grew { result ≡ appends self.old.machine }
+        ensures grew { result ≡ appends self.old.machine.value }
     {
         self.machine.commit(window)
     }
@@ -62,7 +69,7 @@ pub fn commit_all(holds: &mut [Hold], window: &Window) -> u32
     requires room { All HasRoom holds.old }
     requires few { length holds.old ≤ 4096 }
     ensures kept { map kept_hold holds.new ≡ map (committed window.now.items) holds.old }
-    ensures grew { result ≡ count_by (λ hold. appends hold.machine) holds.old }
+    ensures grew { result ≡ count_by (λ hold. appends hold.machine.value) holds.old }
 {
     let mut grew = 0;
     for hold in holds.iter_mut() {

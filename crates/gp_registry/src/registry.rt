@@ -63,15 +63,19 @@ fn made(
     holds: &mut Vec<Hold>,
     spec: &HoldSpec,
     window: &Window,
-) -> Result<HoldMachine, AllocError>
+) -> Result<Box<HoldMachine>, AllocError>
     requires built { is_built_spec spec.now ≡ true }
     requires fits { fits_spec spec.now ≡ true }
     ensures same { holds.new.items ≡ holds.old.items }
     ensures place { OnOk result (vec_len holds.new < vec_capacity holds.new) }
-    ensures made { IfOk result (λ machine. state_of machine ≡ begun_state spec.now window.now.items) }
+    ensures made { IfOk result (λ machine. state_of machine.value ≡ begun_state spec.now window.now.items) }
 {
     holds.reserve(1)?;
-    begun(alloc, spec, window)
+    let machine = begun(alloc, spec, window)?;
+    match Box::new(alloc, machine) {
+        Ok(machine) => Ok(machine),
+        Err(_) => Err(AllocError),
+    }
 }
 
 /// Plans what an item does to each hold, and takes the memory for it in the window. Nothing else changes.
@@ -93,7 +97,7 @@ fn carry_out(window: &mut Window, holds: &mut [Hold], item: Item) -> u32
     requires few { length holds.old ≤ 4096 }
     ensures window { window.new.items ≡ pushed window.old.items item }
     ensures kept { map kept_hold holds.new ≡ map (committed window.new.items) holds.old }
-    ensures grew { result ≡ count_by (λ hold. appends hold.machine) holds.old }
+    ensures grew { result ≡ count_by (λ hold. appends hold.machine.value) holds.old }
 {
     match window.push(item) {
         Ok(_) => commit_all(holds, window),
@@ -247,7 +251,7 @@ impl Registry {
         ensures { (past : List Entry) → StandsFor self.now past → IfOk result (λ pieces. pieces ≡ pending_at (held past) hold) }
     {
         match self.hold(hold) {
-            Some(hold) => hold.machine.pending(),
+            Some(hold) => hold.machine().pending(),
             None => Ok(Pieces::new(self.alloc)),
         }
     }
@@ -257,7 +261,7 @@ impl Registry {
         ensures { (past : List Entry) → StandsFor self.now past → option_map (λ id. id.now) result ≡ position_at (held past) hold }
     {
         match self.hold(hold) {
-            Some(hold) => hold.machine.position(),
+            Some(hold) => hold.machine().position(),
             None => None,
         }
     }
@@ -267,7 +271,7 @@ impl Registry {
         ensures { (past : List Entry) → StandsFor self.now past → result ≡ cause_at (held past) hold }
     {
         match self.hold(hold) {
-            Some(hold) => hold.machine.cause(),
+            Some(hold) => hold.machine().cause(),
             None => None,
         }
     }

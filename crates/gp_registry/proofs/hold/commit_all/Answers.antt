@@ -21,7 +21,7 @@ loop-hold-preserved c =
       done = next_done kept_hold (committed c.args.window.now.items) c.loop-hold.holds c.args.holds.now c.loop-hold.hold-index c.commit.new.self c.hold-item.result k h c.loop-hold.invariant.done c.loop-hold.invariant.rest c.commit.ensures.kept;
       rest = same_tail c.loop-hold.holds c.args.holds.now c.loop-hold.hold-index c.commit.new.self c.hold-item.result k h c.loop-hold.invariant.rest;
       count = elim c.if-commit.branch [
-        | then-commit w ↦ omega (arith, w.grew-is, c.loop-hold.invariant.count, count_by_more_yes (λ x. appends x.machine) c.args.holds.now c.loop-hold.hold-index c.hold-item.result h (cc (e, c.commit.ensures.grew, w.if-commit.true)))
-        | else-commit w ↦ omega (arith, w.grew-is, c.loop-hold.invariant.count, count_by_more_no (λ x. appends x.machine) c.args.holds.now c.loop-hold.hold-index c.hold-item.result h (cc (e, c.commit.ensures.grew, w.if-commit.false)))
+        | then-commit w ↦ omega (arith, w.grew-is, c.loop-hold.invariant.count, count_by_more_yes (λ x. appends x.machine.value) c.args.holds.now c.loop-hold.hold-index c.hold-item.result h (cc (e, c.commit.ensures.grew, w.if-commit.true)))
+        | else-commit w ↦ omega (arith, w.grew-is, c.loop-hold.invariant.count, count_by_more_no (λ x. appends x.machine.value) c.args.holds.now c.loop-hold.hold-index c.hold-item.result h (cc (e, c.commit.ensures.grew, w.if-commit.false)))
       ];
     }
