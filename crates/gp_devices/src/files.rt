@@ -32,6 +32,18 @@ fn push_write<O: Out>(
     text.push_str(format!(in alloc; "{written:?} ")?.as_str())
 }
 
+fn push_writes(
+    alloc: Global,
+    text: &mut String,
+    out: &mut MemOut,
+    calls: &[&str],
+) -> Result<(), AllocError> {
+    for call in calls {
+        push_write(alloc, text, out, call.as_bytes())?;
+    }
+    push_bytes(alloc, text, out.written())
+}
+
 /// `sink ROOM TURNS BYTES..`: what each write of the bytes does, and all that was written.
 pub fn sink(alloc: Global, words: &[&str]) -> Result<String, AllocError> {
     let mut text = String::new(alloc);
@@ -39,11 +51,22 @@ pub fn sink(alloc: Global, words: &[&str]) -> Result<String, AllocError> {
         return Ok(text);
     };
     let mut out = MemOut::new(alloc, number(room), turns(alloc, writes)?)?;
-    for call in calls {
-        push_write(alloc, &mut text, &mut out, call.as_bytes())?;
-    }
-    push_bytes(alloc, &mut text, out.written())?;
+    push_writes(alloc, &mut text, &mut out, calls)?;
     Ok(text)
+}
+
+fn push_reads(
+    alloc: Global,
+    text: &mut String,
+    files: &mut MemFiles,
+    paths: &[&str],
+) -> Result<(), AllocError> {
+    for path in paths {
+        let read = files.read(path);
+        push_read(alloc, text, &read)?;
+        text.push(' ')?;
+    }
+    Ok(())
 }
 
 /// `file CONTENT TURNS PATH..`: what each read at a path gives of the file `script`.
@@ -53,11 +76,7 @@ pub fn reads(alloc: Global, words: &[&str]) -> Result<String, AllocError> {
         return Ok(text);
     };
     let mut files = file(alloc, content, reads)?;
-    for path in paths {
-        let read = files.read(path);
-        push_read(alloc, &mut text, &read)?;
-        text.push(' ')?;
-    }
+    push_reads(alloc, &mut text, &mut files, paths)?;
     Ok(text)
 }
 
@@ -69,18 +88,36 @@ fn copy_twice<W: World>(world: &mut W, path: &str) -> bool {
     write_all(world.out(), body.bytes()) && write_all(world.out(), body.bytes())
 }
 
+fn made_world(
+    alloc: Global,
+    content: &str,
+    room: usize,
+    writes: &str,
+) -> Result<MemWorld, AllocError> {
+    let out = MemOut::new(alloc, room, turns(alloc, writes)?)?;
+    Ok(MemWorld::new(file(alloc, content, "-")?, out))
+}
+
+fn push_copies(
+    alloc: Global,
+    text: &mut String,
+    world: &mut MemWorld,
+    paths: &[&str],
+) -> Result<(), AllocError> {
+    for path in paths {
+        let is_whole = copy_twice(world, path);
+        text.push_str(if is_whole { "true " } else { "false " })?;
+    }
+    push_bytes(alloc, text, world.out.written())
+}
+
 /// `world CONTENT ROOM TURNS PATH..`: whether the file at each path was written twice, and all that was written.
 pub fn world(alloc: Global, words: &[&str]) -> Result<String, AllocError> {
     let mut text = String::new(alloc);
     let [content, room, writes, paths @ ..] = words else {
         return Ok(text);
     };
-    let out = MemOut::new(alloc, number(room), turns(alloc, writes)?)?;
-    let mut world = MemWorld::new(file(alloc, content, "-")?, out);
-    for path in paths {
-        let is_whole = copy_twice(&mut world, path);
-        text.push_str(format!(in alloc; "{is_whole} ")?.as_str())?;
-    }
-    push_bytes(alloc, &mut text, world.out.written())?;
+    let mut world = made_world(alloc, content, number(room), writes)?;
+    push_copies(alloc, &mut text, &mut world, paths)?;
     Ok(text)
 }

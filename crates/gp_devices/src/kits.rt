@@ -1,13 +1,14 @@
-ghost use Rattle.std.specs.Prelude.{All, IfOk};
-ghost use Rattle.gp_outside.specs.Links.{LinkTells};
+ghost use Rattle.std.specs.Prelude.{All, IfOk, ◌≡◌};
+ghost use Rattle.gp_outside.specs.Listens.{IsUnusedListen};
 ghost use Rattle.gp_outside.specs.MemDials.{DialState, told_dial};
 ghost use Rattle.gp_outside.specs.MemLinks.{LinkState, told_link};
+ghost use Rattle.gp_outside.specs.MemListens.{told_listen};
 ghost use Rattle.gp_outside.specs.Unused.{IsUnusedDial, IsUnusedLink};
 
 use crate::words::{number, push_bytes, turn, turns};
 use gp_outside::{
-    Accepted, Answers, Clock, Clocks, Dial, Dials, FreeGate, Gate, Idle, Kit, Link, Links, Listen,
-    MemClock, MemDial, MemKit, MemLink, MemListen, PairGate, Times, Turns,
+    Accepted, Answers, Clock, Clocks, Dial, Dials, Ended, FreeGate, Gate, Idle, Kit, Link, Links,
+    Listen, MemClock, MemDial, MemKit, MemLink, MemListen, PairGate, Times, Turns,
 };
 use gp_plain::{Address, Body};
 use std::alloc::{AllocError, Global};
@@ -78,13 +79,26 @@ fn dials(alloc: Global) -> Result<Dials, AllocError>
     Ok(Dials::from_vec(vec![in alloc; dial]?))
 }
 
-fn kit(alloc: Global, idle: u64) -> Result<MemKit, AllocError> {
+/// A listener of two clients, and one of no publisher.
+fn listeners(alloc: Global, idle: u64) -> Result<(MemListen, MemListen), AllocError>
+    ensures { IfOk result (λ made. IsUnusedListen (told_listen made.0) × IsUnusedListen (told_listen made.1)) }
+{
     let clients = MemListen::new(links(alloc)?, idle);
-    let publishers = MemListen::new(Links::new(alloc), idle);
+    Ok((clients, MemListen::new(Links::new(alloc), idle)))
+}
+
+/// One clock.
+fn clocks(alloc: Global) -> Result<Clocks, AllocError> {
     let clock = MemClock::new(times(alloc, "5,6")?);
-    let clocks = Clocks::from_vec(vec![in alloc; clock]?);
+    Ok(Clocks::from_vec(vec![in alloc; clock]?))
+}
+
+fn kit(alloc: Global, idle: u64) -> Result<MemKit, AllocError> {
     let gate = PairGate::new(alloc, 0)?;
-    Ok(MemKit::new(alloc, clients, publishers, dials(alloc)?, clocks, gate))
+    let clocks = clocks(alloc)?;
+    let dials = dials(alloc)?;
+    let (clients, publishers) = listeners(alloc, idle)?;
+    Ok(MemKit::new(alloc, clients, publishers, dials, clocks, gate))
 }
 
 /// Serves one client: it calls an origin, and is sent a letter.
@@ -122,32 +136,45 @@ fn round<K: Kit>(alloc: Global, text: &mut String, kit: &mut K) -> Result<(), Al
     Ok(())
 }
 
+/// Adds what was sent to a client that was handed back, and whether its dialer had a talk.
+fn push_ended(alloc: Global, text: &mut String, ended: &Ended) -> Result<(), AllocError> {
+    push_bytes(alloc, text, ended.link.sent())?;
+    match &ended.others {
+        Some((dial, _)) => {
+            let has_talk = dial.sent(0).is_some();
+            text.push_str(format!(in alloc; " talk {has_talk} ")?.as_str())
+        }
+        None => text.push_str(" none "),
+    }
+}
+
+fn push_rounds(
+    alloc: Global,
+    text: &mut String,
+    kit: &mut MemKit,
+    count: usize,
+) -> Result<(), AllocError> {
+    for _round in 0..count {
+        round(alloc, text, kit)?;
+    }
+    for place in 0..3usize {
+        match kit.ended(place) {
+            Some(ended) => push_ended(alloc, text, ended)?,
+            None => text.push_str("none ")?,
+        }
+    }
+    Ok(())
+}
+
 /// `kit IDLE ROUNDS`: what so many rounds do with a kit of two clients, one dialer and one clock, and what the first
-/// three sessions handed back: what was sent to the client, and in the first talk.
+/// three sessions handed back: what was sent to the client, and whether there was a talk.
 pub fn rounds(alloc: Global, words: &[&str]) -> Result<String, AllocError> {
     let mut text = String::new(alloc);
     let [idle, count] = words else {
         return Ok(text);
     };
     let mut kit = kit(alloc, idle.parse::<u64>().unwrap_or(0))?;
-    for _round in 0..number(count) {
-        round(alloc, &mut text, &mut kit)?;
-    }
-    for place in 0..3usize {
-        match kit.ended(place) {
-            Some(ended) => {
-                push_bytes(alloc, &mut text, ended.link.sent())?;
-                match &ended.others {
-                    Some((dial, _)) => {
-                        let has_talk = dial.sent(0).is_some();
-                        text.push_str(format!(in alloc; " talk {has_talk} ")?.as_str())?
-                    }
-                    None => text.push_str(" none ")?,
-                }
-            }
-            None => text.push_str("none ")?,
-        }
-    }
+    push_rounds(alloc, &mut text, &mut kit, number(count))?;
     Ok(text)
 }
 
@@ -161,6 +188,22 @@ fn pass<G: Gate>(gate: &G, call: &str) {
     }
 }
 
+fn push_calls(
+    alloc: Global,
+    text: &mut String,
+    gates: [&PairGate; 2],
+    calls: &[&str],
+) -> Result<(), AllocError> {
+    for (place, call) in calls.iter().enumerate() {
+        pass(&FreeGate, call);
+        pass(gates[place % 2], call);
+        let late = gates[0].late();
+        let also = gates[1].late();
+        text.push_str(format!(in alloc; "{late} {also} ")?.as_str())?;
+    }
+    Ok(())
+}
+
 /// `gate TURNS CALL..`: whether a gate was late after each call. The calls alternate between two handles.
 pub fn gate(alloc: Global, words: &[&str]) -> Result<String, AllocError> {
     let mut text = String::new(alloc);
@@ -169,16 +212,6 @@ pub fn gate(alloc: Global, words: &[&str]) -> Result<String, AllocError> {
     };
     let gate = PairGate::new(alloc, count.parse::<u64>().unwrap_or(0))?;
     let other = gate.copy()?;
-    for (place, call) in calls.iter().enumerate() {
-        pass(&FreeGate, call);
-        if place % 2 == 0 {
-            pass(&gate, call);
-        } else {
-            pass(&other, call);
-        }
-        let late = gate.late();
-        let also = other.late();
-        text.push_str(format!(in alloc; "{late} {also} ")?.as_str())?;
-    }
+    push_calls(alloc, &mut text, [&gate, &other], calls)?;
     Ok(text)
 }

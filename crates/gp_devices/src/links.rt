@@ -1,4 +1,4 @@
-use crate::words::{body, number, push_bytes, turns};
+use crate::words::{body, bytes, number, push_bytes, turns};
 use gp_outbox::Outbox;
 use gp_outside::{Answers, Dial, Got, Link, MemDial, MemLink, Turns};
 use gp_plain::{Address, Body};
@@ -8,12 +8,7 @@ use std::alloc::{AllocError, Global};
 const SLICE: usize = 8;
 
 /// Adds what a read gave, and the slice behind it.
-fn push_read(
-    alloc: Global,
-    text: &mut String,
-    got: Got,
-    into: &[u8],
-) -> Result<(), AllocError> {
+fn push_read(alloc: Global, text: &mut String, got: Got, into: &[u8]) -> Result<(), AllocError> {
     text.push_str(format!(in alloc; "{got:?} ")?.as_str())?;
     push_bytes(alloc, text, into)?;
     text.push(' ')
@@ -41,19 +36,38 @@ fn call_link<L: Link>(
     }
 }
 
+fn made_link(
+    alloc: Global,
+    input: &str,
+    room: usize,
+    reads: &str,
+    writes: &str,
+) -> Result<MemLink, AllocError> {
+    let reads = turns(alloc, reads)?;
+    let writes = turns(alloc, writes)?;
+    MemLink::new(alloc, body(alloc, input)?, room, reads, writes)
+}
+
+fn push_calls(
+    alloc: Global,
+    text: &mut String,
+    link: &mut MemLink,
+    calls: &[&str],
+) -> Result<(), AllocError> {
+    for call in calls {
+        call_link(alloc, text, link, call)?;
+    }
+    push_bytes(alloc, text, link.sent())
+}
+
 /// `link INPUT ROOM READS WRITES CALL..`: what each call does, and all that was sent.
 pub fn link(alloc: Global, words: &[&str]) -> Result<String, AllocError> {
     let mut text = String::new(alloc);
     let [input, room, reads, writes, calls @ ..] = words else {
         return Ok(text);
     };
-    let input = body(alloc, input)?;
-    let reads = turns(alloc, reads)?;
-    let mut link = MemLink::new(alloc, input, number(room), reads, turns(alloc, writes)?)?;
-    for call in calls {
-        call_link(alloc, &mut text, &mut link, call)?;
-    }
-    push_bytes(alloc, &mut text, link.sent())?;
+    let mut link = made_link(alloc, input, number(room), reads, writes)?;
+    push_calls(alloc, &mut text, &mut link, calls)?;
     Ok(text)
 }
 
@@ -96,6 +110,45 @@ fn answers(alloc: Global, word: &str) -> Result<Answers, AllocError> {
     Ok(Answers::from_vec(answers))
 }
 
+fn made_dial(
+    alloc: Global,
+    origins: &str,
+    room: usize,
+    connects: &str,
+    others: &str,
+) -> Result<MemDial, AllocError> {
+    let connects = turns(alloc, connects)?;
+    let reads = turns(alloc, others)?;
+    let writes = turns(alloc, others)?;
+    MemDial::new(
+        alloc,
+        answers(alloc, origins)?,
+        room,
+        connects,
+        reads,
+        writes,
+    )
+}
+
+fn push_talks(
+    alloc: Global,
+    text: &mut String,
+    dial: &mut MemDial,
+    calls: &[&str],
+) -> Result<(), AllocError> {
+    for call in calls {
+        call_dial(alloc, text, dial, call)?;
+    }
+    for talk in 0..3usize {
+        match dial.sent(talk) {
+            Some(sent) => push_bytes(alloc, text, sent)?,
+            None => text.push_str("none")?,
+        }
+        text.push(' ')?;
+    }
+    Ok(())
+}
+
 /// `dial ANSWERS ROOM CONNECTS OTHERS CALL..`: what each call does, and what was sent in the first three talks, where
 /// they were.
 pub fn dial(alloc: Global, words: &[&str]) -> Result<String, AllocError> {
@@ -103,21 +156,8 @@ pub fn dial(alloc: Global, words: &[&str]) -> Result<String, AllocError> {
     let [origins, room, connects, others, calls @ ..] = words else {
         return Ok(text);
     };
-    let origins = answers(alloc, origins)?;
-    let connects = turns(alloc, connects)?;
-    let reads = turns(alloc, others)?;
-    let writes = turns(alloc, others)?;
-    let mut dial = MemDial::new(alloc, origins, number(room), connects, reads, writes)?;
-    for call in calls {
-        call_dial(alloc, &mut text, &mut dial, call)?;
-    }
-    for talk in 0..3usize {
-        match dial.sent(talk) {
-            Some(sent) => push_bytes(alloc, &mut text, sent)?,
-            None => text.push_str("none")?,
-        }
-        text.push(' ')?;
-    }
+    let mut dial = made_dial(alloc, origins, number(room), connects, others)?;
+    push_talks(alloc, &mut text, &mut dial, calls)?;
     Ok(text)
 }
 
@@ -129,30 +169,55 @@ fn put(outbox: &mut Outbox, body: Body) -> Result<(), AllocError> {
     }
 }
 
+/// Puts a short body, one of some length, and a short one.
+fn fill(alloc: Global, outbox: &mut Outbox, long: &str) -> Result<(), AllocError> {
+    put(outbox, body(alloc, "one")?)?;
+    put(outbox, body(alloc, long)?)?;
+    put(outbox, body(alloc, "two")?)
+}
+
+fn outbox_link(alloc: Global, writes: &str) -> Result<MemLink, AllocError> {
+    let writes = turns(alloc, writes)?;
+    MemLink::new(alloc, Body::empty(alloc), 70000, Turns::new(alloc), writes)
+}
+
+fn push_flushes(
+    alloc: Global,
+    text: &mut String,
+    outbox: &mut Outbox,
+    link: &mut MemLink,
+    count: usize,
+) -> Result<(), AllocError> {
+    for _flush in 0..count {
+        let flushed = outbox.flush(link);
+        text.push_str(format!(in alloc; "{flushed:?} ")?.as_str())?;
+    }
+    let waiting = outbox.waiting();
+    text.push_str(format!(in alloc; "{waiting} ")?.as_str())
+}
+
+/// The bytes that are sent at once.
+fn whole(alloc: Global, long: &str) -> Result<Vec<u8>, AllocError> {
+    let mut whole = b"(one)(".to_vec(alloc)?;
+    whole.extend_from_slice(bytes(alloc, long)?.as_slice())?;
+    whole.extend_from_slice(b")(two)")?;
+    Ok(whole)
+}
+
 /// `outbox LENGTH TURNS COUNT`: what so many flushes of a short body, one of that length and a short one do; how many
-/// bytes wait behind them; what was sent; and whether that is what is sent at once.
+/// bytes wait behind them; what was sent; and whether that is all.
 pub fn outbox(alloc: Global, words: &[&str]) -> Result<String, AllocError> {
     let mut text = String::new(alloc);
     let [long, writes, count] = words else {
         return Ok(text);
     };
+    let whole = whole(alloc, long)?;
+    let mut link = outbox_link(alloc, writes)?;
     let mut outbox = Outbox::new(alloc);
-    put(&mut outbox, body(alloc, "one")?)?;
-    put(&mut outbox, body(alloc, long)?)?;
-    put(&mut outbox, body(alloc, "two")?)?;
-    let writes = turns(alloc, writes)?;
-    let mut link = MemLink::new(alloc, Body::empty(alloc), 70000, Turns::new(alloc), writes)?;
-    for _flush in 0..number(count) {
-        let flushed = outbox.flush(&mut link);
-        text.push_str(format!(in alloc; "{flushed:?} ")?.as_str())?;
-    }
-    let waiting = outbox.waiting();
-    text.push_str(format!(in alloc; "{waiting} ")?.as_str())?;
+    fill(alloc, &mut outbox, long)?;
+    push_flushes(alloc, &mut text, &mut outbox, &mut link, number(count))?;
     push_bytes(alloc, &mut text, link.sent())?;
-    let mut whole = b"(one)(".to_vec(alloc)?;
-    whole.extend_from_slice(body(alloc, long)?.bytes())?;
-    whole.extend_from_slice(b")(two)")?;
     let is_whole = link.sent() == whole.as_slice();
-    text.push_str(format!(in alloc; " {is_whole}")?.as_str())?;
+    text.push_str(if is_whole { " true" } else { " false" })?;
     Ok(text)
 }

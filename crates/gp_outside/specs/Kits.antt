@@ -1,5 +1,5 @@
 -- What a kit lends, gives and takes back.
-use Rattle.std.specs.Prelude.{ℕ, ◌≡◌, List, [], ◌∷◌, ◌++◌, Option, option_map}
+use Rattle.std.specs.Prelude.{◌≡◌, List, [], ◌∷◌, ◌++◌, Option, option_map}
 use Rattle.gp_outside.specs.declared.kit.Handed.{Handed}
 
 -- the listeners, the idle and the gate that a kit lends, and what was handed back to it, in order, where it tells that

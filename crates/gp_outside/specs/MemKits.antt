@@ -1,5 +1,5 @@
 -- A kit in memory.
-use Rattle.std.specs.Prelude.{ℕ, ◌≡◌, List, [], ◌∷◌, true, Option, Some, None}
+use Rattle.std.specs.Prelude.{ℕ, List, [], ◌∷◌, true, Some, None}
 use Rattle.gp_outside.specs.Kits.{KitParts}
 use Rattle.gp_outside.specs.MemClocks.{ClockState}
 use Rattle.gp_outside.specs.MemDials.{DialState}

@@ -145,11 +145,7 @@ impl Kit for MemKit {
         }
     }
 
-    fn over(
-        &mut self,
-        link: MemLink,
-        others: Option<(MemDial, MemClock)>,
-    ) -> Result<(), AllocError>
+    fn over(&mut self, link: MemLink, others: Option<(MemDial, MemClock)>) -> Result<(), AllocError>
         ensures ok { OnOk result (TakesBack (parts_of self.old) (parts_of self.new) link others) }
         ensures err { OnErr result (TellsTheSame (parts_of self.old) (parts_of self.new)) }
         ensures taken { OnOk result (self.new ≡ record self.old { handed = self.old.handed ++ record { link = link; others = others } ∷ [] }) }
