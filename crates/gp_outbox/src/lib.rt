@@ -8,6 +8,3 @@
 mod outbox;
 
 pub use outbox::{Flushed, Outbox};
-
-#[cfg(test)]
-mod tests;

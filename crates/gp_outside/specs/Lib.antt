@@ -4,9 +4,14 @@ pub mod Links
 pub mod Talks
 pub mod Dials
 pub mod Clocks
+pub mod Unused
+pub mod Listens
+pub mod Kits
 pub mod Turning
 pub mod Memory
 pub mod MemLinks
 pub mod MemDials
 pub mod Kept
 pub mod MemClocks
+pub mod MemListens
+pub mod MemKits

@@ -2,6 +2,7 @@ ghost use Rattle.std.specs.Prelude.{◌≡◌, ◌<◌, ◌≤◌, ◌+◌, ◌+
 ghost use Rattle.gp_plain.specs.declared.http.Address.{Address};
 ghost use Rattle.gp_outside.specs.Talks.{Talk, all_of};
 ghost use Rattle.gp_outside.specs.Dials.{IsConnect, IsDialRead, IsDialWrite, after_hang_up};
+ghost use Rattle.gp_outside.specs.MemKits.{no_dial};
 ghost use Rattle.gp_outside.specs.MemDials.{after_connect, after_dial_got, after_dial_put, closed, dial_connect, dial_got, dial_put, in_talk, received, room_in, sent, told_dial};
 
 use crate::dial::{Connected, Dial};
@@ -97,6 +98,28 @@ impl MemDial {
             write_waits: 0,
             ends: 0,
         })
+    }
+
+    /// A dialer with no answer and no room, whose connects all fail. It takes no memory.
+    pub(crate) fn without_answers(alloc: Global) -> MemDial
+        ensures { result ≡ no_dial }
+    {
+        MemDial {
+            over: Roomed::new(alloc),
+            present: None,
+            bytes: Vec::new(alloc),
+            told: true,
+            answers: Answers::new(alloc),
+            room: 0,
+            connects: Turns::new(alloc),
+            reads: Turns::new(alloc),
+            writes: Turns::new(alloc),
+            faults: 0,
+            connect_waits: 0,
+            read_waits: 0,
+            write_waits: 0,
+            ends: 0,
+        }
     }
 
     /// All the bytes that were sent in a talk, by its number from 0, where there was that talk.
