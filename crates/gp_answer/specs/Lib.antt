@@ -1,3 +1,4 @@
 pub mod Framings
 pub mod Answers
 pub mod Refusals
+pub mod Frames

@@ -1,7 +1,11 @@
 -- What a request is held open for, by the instruction and the body of its answer.
-use Rattle.std.specs.Prelude.{ℕ, ◌+◌, min, Bool, List, [], ◌∷◌, map, Option, Some, None, is_some}
+use Rattle.std.specs.Prelude.{ℕ, ◌≡◌, ◌+◌, ◌≤◌, min, Bool, true, List, [], ◌∷◌, length, map, Option, Some, None, is_some, Ok}
+use Rattle.gp_plain.specs.Fit.{fits}
+use Rattle.gp_plain.specs.declared.event.Event.TheVariants.{Attach}
 use Rattle.gp_plain.specs.declared.event.HoldSpec.{HoldSpec}
 use Rattle.gp_plain.specs.declared.event.HoldSpec.TheVariants.{Stream, Plain, Response}
+use Rattle.gp_instruct.specs.Channels.{firsts}
+use Rattle.gp_instruct.specs.Holds.{count_read}
 use Rattle.gp_instruct.specs.declared.instruct.Sub.{Sub}
 use Rattle.gp_instruct.specs.declared.instruct.Mode.{Mode as Hold}
 use Rattle.gp_instruct.specs.declared.instruct.Mode.TheVariants.{Response as Poll, Stream as Open}
@@ -36,3 +40,16 @@ held_by (Some Poll) instruct body now again =
 -- repeated
 abbrev pub spec : Instruct → List ℕ → ℕ → Bool → Option HoldSpec
 spec instruct body now again = held_by instruct.mode instruct body now again
+
+-- the channels are those that were asked for, each name once, and as many as the hold may have. So it is with each instruction that
+-- was read, from fields or from JSON
+pub record IsCounted (instruct : Instruct) : Type 0 where
+  pub asked : List Sub
+  pub subs : instruct.subs ≡ firsts asked
+  pub count : count_read instruct.mode instruct.subs ≡ Ok tt
+
+-- what such an instruction asks for, with an opening that is short enough, may be attached
+abbrev pub SpecLaw : Type 0
+SpecLaw =
+    (instruct : Instruct) (opening : List ℕ) (now : ℕ) (again : Bool) (held : HoldSpec) → IsCounted instruct → length opening ≤ 262144
+    → spec instruct opening now again ≡ Some held → fits (Attach held) ≡ true

@@ -20,6 +20,7 @@ mod number;
 mod part;
 mod scan;
 mod span;
+mod spec;
 mod target;
 mod text;
 
@@ -30,3 +31,4 @@ pub use hold::{DEFAULT_TIMEOUT, check_channels};
 pub use instruct::{Instruct, Mode, Sub, Subs};
 pub use last::write_last;
 pub use link::read_link;
+pub use spec::spec_law;
