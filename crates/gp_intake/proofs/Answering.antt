@@ -10,7 +10,7 @@ use Rattle.gp_intake.specs.declared.body.BodyPolled.TheVariants as body
 use Rattle.gp_intake.specs.declared.fault.RequestFault.{RequestFault}
 use Rattle.gp_intake.specs.Bodies.{ReadingView, IsOpen}
 use Rattle.gp_intake.specs.Heads.{IsBegun}
-use Rattle.gp_intake.specs.Requests.{HeadedView, IsHeaded, IsUnderway, IsRefusedBy}
+use Rattle.gp_intake.specs.Requests.{HeadedView, IsHeaded, IsUnderway, IsRefusedBy, IsBodyRefusedBy}
 use Rattle.gp_intake.specs.Polls.{Hears, IsGone, HasReadHead, HasReadBody, HeadSays, BodySays, PollsHead, PollsBody, BeginsBody, RefusesHead, AnswersRefused, AnswersWhole, UsedHead}
 use Rattle.gp_intake.proofs.Hearing.{hears_none, hears_more, rose_from, gone_from}
 use Rattle.gp_intake.proofs.Asking.{headed_more}
@@ -88,7 +88,9 @@ module _ (v w : HeadedView) (head_is : w.head ≡ v.head) (path_is : w.path ≡ 
 module _ (v w : HeadedView) (head_is : w.head ≡ v.head) (path_is : w.path ≡ v.path) (a b : LinkTells) (reads : HasReadBody a b v.body w.body) where
   refused_says : (answer : BodyPolled) → AnswersRefused w answer → (received : List ℕ) → IsHeaded w received → BodySays a b v (received ++ []) answer
   refused_says (body.Whole whole) h received headed = absurd h
-  refused_says (body.Refused refused) h received headed = rw (append-nil received) (h received headed)
+  refused_says (body.Refused refused) h received headed =
+      rw (append-nil received) (subst (λ (p : List ℕ). IsBodyRefusedBy v.head p received refused.fault refused.method) path_is
+      (subst (λ (r : Request). IsBodyRefusedBy r w.path received refused.fault refused.method) head_is (h received headed)))
   refused_says (body.NotReady next) h received headed = absurd h
   refused_says body.ClientGone h received headed = absurd h
   refused_says body.NoMemory h received headed = absurd h

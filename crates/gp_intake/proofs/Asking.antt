@@ -22,7 +22,7 @@ use Rattle.gp_intake.specs.declared.body.Whole.{Whole}
 use Rattle.gp_intake.specs.declared.reading.TheConstants.{MAX_BODY}
 use Rattle.gp_intake.specs.Bodies.{IsCause, ComesOn}
 use Rattle.gp_intake.specs.Heads.{IsBegun}
-use Rattle.gp_intake.specs.Requests.{HeadedView, IsHeaded, IsWhole, HasRefusedBody, IsRefusedBy, request_fault}
+use Rattle.gp_intake.specs.Requests.{HeadedView, IsHeaded, IsWhole, HasRefusedBody, IsBodyRefusedBy, request_fault}
 use Rattle.gp_intake.proofs.Steady.{Steady, steady}
 
 -- the head stands within the bytes
@@ -90,16 +90,14 @@ not_end r true fault s refused e = let none = s.ended e in cc
 not_end r false fault s refused e = e
 
 -- the body is refused, and so is the request
-pub refused_from : (v : HeadedView) (received method : List ℕ) (fault : FedFault) → method ≡ v.head.method → v.body.reading.refused ≡ Some fault → IsHeaded v received → HasRefusedBody received method fault
+pub refused_from : (v : HeadedView) (received method : List ℕ) (fault : FedFault) → method ≡ v.head.method → v.body.reading.refused ≡ Some fault → IsHeaded v received → HasRefusedBody v.head v.path received fault method
 refused_from v received method fault m refused h =
     let come = h.come in
     let s : Steady MAX_BODY v.body.reading = subst (Steady MAX_BODY) (sym come.reading) (steady h.plan MAX_BODY come.text) in
     let none : v.body.unused ≡ [] = come.nothing (not_end v.body.reading (is_end v.body.reading.state) fault s refused refl) in
     let all : drop h.length received ≡ come.text = come.split ∙ ap (λ (xs : List ℕ). come.text ++ xs) none ∙ append-nil come.text in
     record {
-      head = v.head;
       length = h.length;
-      path = v.path;
       plan = h.plan;
       read = h.read;
       served = h.served;
@@ -107,7 +105,8 @@ refused_from v received method fault m refused h =
       method_is = m;
     }
 
-pub refused_by : (received method : List ℕ) (fault : FedFault) → IsCause MAX_BODY (Some fault) → HasRefusedBody received method fault → IsRefusedBy received (request_fault fault) method
-refused_by received method (Chunk place) cause h = h
-refused_by received method (TooLong told) cause h = subst (λ (n : ℕ). HasRefusedBody received method (TooLong n)) cause h
-refused_by received method (Cut n) cause h = absurd cause
+pub refused_by : (head : Request) (path received method : List ℕ) (fault : FedFault) → IsCause MAX_BODY (Some fault) → HasRefusedBody head path received fault method
+    → IsBodyRefusedBy head path received (request_fault fault) method
+refused_by head path received method (Chunk place) cause h = h
+refused_by head path received method (TooLong told) cause h = subst (λ (n : ℕ). HasRefusedBody head path received (TooLong n) method) cause h
+refused_by head path received method (Cut n) cause h = absurd cause

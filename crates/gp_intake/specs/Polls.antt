@@ -13,7 +13,7 @@ use Rattle.gp_body.specs.declared.plan.BodyPlan.{BodyPlan}
 use Rattle.gp_intake.specs.declared.fault.RequestFault.{RequestFault}
 use Rattle.gp_intake.specs.Bodies.{ReadingView, HasCome, ComesOn, bytes_left}
 use Rattle.gp_intake.specs.Heads.{IsBegun}
-use Rattle.gp_intake.specs.Requests.{HeadedView, IsHeaded, IsUnderway, IsWhole, IsRefused}
+use Rattle.gp_intake.specs.Requests.{HeadedView, IsHeaded, IsUnderway, IsWhole, IsRefused, IsBodyRefused}
 
 -- these bytes were received, and nothing else of the link has changed but its counts of reads
 pub record Hears (before now : LinkTells) (more : List ℕ) : Type 0 where
@@ -81,7 +81,7 @@ pub record PollsHead (begun : List ℕ) (before now : LinkTells) (answer : HeadP
 -- what a poll answers behind a head, of all bytes received
 abbrev pub BodySays : LinkTells → LinkTells → HeadedView → List ℕ → BodyPolled → Type 0
 BodySays before now v received (body.Whole whole) = IsWhole whole received × (whole.head ≡ v.head) × (whole.path ≡ v.path)
-BodySays before now v received (body.Refused refused) = IsRefused refused received
+BodySays before now v received (body.Refused refused) = IsBodyRefused v refused received
 BodySays before now v received (body.NotReady w) = IsUnderway w received × (w.head ≡ v.head) × (w.path ≡ v.path) × Rose before.read_waits now.read_waits
 BodySays before now v received body.ClientGone = ((w : HeadedView) × IsUnderway w received) × IsGone before now
 BodySays before now v received body.NoMemory = UsedBody received
@@ -113,7 +113,7 @@ BeginsBody received head.NoMemory = ⊤
 -- what is answered of a body that is refused, or has ended
 abbrev pub AnswersRefused : HeadedView → BodyPolled → Type 0
 AnswersRefused v (body.Whole whole) = ⊥
-AnswersRefused v (body.Refused refused) = (received : List ℕ) → IsHeaded v received → IsRefused refused received
+AnswersRefused v (body.Refused refused) = (received : List ℕ) → IsHeaded v received → IsBodyRefused v refused received
 AnswersRefused v (body.NotReady w) = ⊥
 AnswersRefused v body.ClientGone = ⊥
 AnswersRefused v body.NoMemory = ⊥

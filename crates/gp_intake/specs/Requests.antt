@@ -58,11 +58,9 @@ pub record HasRefusedHead (received : List ℕ) (refused : Refused) : Type 0 whe
   pub rule : IsHeadRefused head refused.fault
   pub method : refused.method ≡ head.method
 
--- a body that is refused, behind a head that is served
-pub record HasRefusedBody (received method : List ℕ) (fault : FedFault) : Type 0 where
-  pub head : Request
+-- a body that is refused, behind a head that is served and has this path and query
+pub record HasRefusedBody (head : Request) (path received : List ℕ) (fault : FedFault) (method : List ℕ) : Type 0 where
   pub length : ℕ
-  pub path : List ℕ
   pub plan : BodyPlan
   pub read : IsRead IsRequestText received (WholeHead head length)
   pub served : IsServed head path plan
@@ -82,8 +80,21 @@ IsRefusedBy received Head method = IsRead IsRequestText received Bad × (method 
 IsRefusedBy received Target method = HasRefusedHead received (record { fault = Target; method = method })
 IsRefusedBy received Host method = HasRefusedHead received (record { fault = Host; method = method })
 IsRefusedBy received (Plan fault) method = HasRefusedHead received (record { fault = Plan fault; method = method })
-IsRefusedBy received (Chunk place) method = HasRefusedBody received method (fed.Chunk place)
-IsRefusedBy received TooLong method = HasRefusedBody received method (fed.TooLong MAX_BODY)
+IsRefusedBy received (Chunk place) method = (head : Request) × (path : List ℕ) × HasRefusedBody head path received (fed.Chunk place) method
+IsRefusedBy received TooLong method = (head : Request) × (path : List ℕ) × HasRefusedBody head path received (fed.TooLong MAX_BODY) method
 
 abbrev pub IsRefused : Refused → List ℕ → Type 0
 IsRefused refused received = IsRefusedBy received refused.fault refused.method
+
+-- the body behind this head is refused so
+abbrev pub IsBodyRefusedBy : Request → List ℕ → List ℕ → RequestFault → List ℕ → Type 0
+IsBodyRefusedBy head path received HeadTooLarge method = ⊥
+IsBodyRefusedBy head path received Head method = ⊥
+IsBodyRefusedBy head path received Target method = ⊥
+IsBodyRefusedBy head path received Host method = ⊥
+IsBodyRefusedBy head path received (Plan fault) method = ⊥
+IsBodyRefusedBy head path received (Chunk place) method = HasRefusedBody head path received (fed.Chunk place) method
+IsBodyRefusedBy head path received TooLong method = HasRefusedBody head path received (fed.TooLong MAX_BODY) method
+
+abbrev pub IsBodyRefused : HeadedView → Refused → List ℕ → Type 0
+IsBodyRefused v refused received = IsBodyRefusedBy v.head v.path received refused.fault refused.method
