@@ -1,0 +1,5 @@
+pub mod Served
+pub mod Bodies
+pub mod Heads
+pub mod Requests
+pub mod Polls

@@ -1,0 +1,16 @@
+//! What the sessions of clients share: the ends over which they move, and the words in which they say what they did.
+//!
+//! A session owns a [`Wire`], which is its client's link with the bytes that wait for it, and a [`Seat`], which is its pass of
+//! the hub. Each end remembers how it stood when the session began, and all that a session says is said since then. Each move
+//! of a session is one call on one end, and is proved there once, for every session and every stage.
+//!
+//! `specs/Wires.antt` has the rows of a link: the request, by what the bytes received are, and the bytes sent. `specs/Seats.antt`
+//! has the rows of a pass: what the session made, and what stays of it. `specs/Causes.antt` says why a session waits. It stands on
+//! `gp_outside`, `gp_outbox`, `gp_intake` and `gp_hub`, and has no handle.
+#![tactic(auto)]
+
+mod seat;
+mod wire;
+
+pub use seat::{Published, Seat};
+pub use wire::Wire;
