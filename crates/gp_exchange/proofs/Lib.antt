@@ -1,0 +1,7 @@
+pub mod Bodies
+pub mod Interim
+pub mod Framing
+pub mod Talking
+pub mod Leading
+pub mod Parts
+pub mod Headings
