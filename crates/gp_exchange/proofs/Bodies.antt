@@ -1,20 +1,20 @@
 -- How the body of a talk is read on.
-use Rattle.std.proofs.Common.{◌≡◌, ℕ, ◌+◌, ◌≤◌, Bool, true, false, ◌⊎◌, inl, inr, List, [], ◌++◌, drop, length, Option, Some, None, sym, ap, ◌∙◌, refl, subst, arith, append_assoc}
-use Rattle.std.specs.Prelude.{Result, Ok, Err, ⊤, if◌then◌else◌}
+use Rattle.std.proofs.Common.{◌≡◌, ℕ, Bool, true, false, inl, inr, List, [], ◌++◌, drop, Option, Some, None, sym, ap, ◌∙◌, refl, subst}
+use Rattle.std.specs.Prelude.{Ok, Err}
 use Rattle.gp_plain.specs.declared.http.Response.{Response}
 use Rattle.gp_body.specs.declared.plan.BodyPlan.{BodyPlan}
 use Rattle.gp_body.specs.declared.fed.FedFault.{FedFault}
 use Rattle.gp_body.specs.declared.reading.Reading.{Reading}
 use Rattle.gp_body.specs.Steps.{is_end}
 use Rattle.gp_body.specs.Readings.{after_all, content_from}
-use Rattle.gp_body.specs.Wholes.{opening, reading_of, content_of, is_ended, fault_of, refusal, IsFinishedAt}
+use Rattle.gp_body.specs.Wholes.{opening, reading_of, content_of, IsFinishedAt}
 use Rattle.gp_body.proofs.ReadingLemmas.{after_all-append, content-append}
 use Rattle.gp_exchange.specs.Views.{AskedView}
 use Rattle.gp_exchange.specs.Heads.{HasHead}
 use Rattle.gp_body.specs.Plans.{plan_of_response}
 use Rattle.gp_exchange.specs.Hearing.{ReadsOn}
-use Rattle.gp_exchange.specs.Ends.{Gave, Reads, EndsBody, RefusesBody, EndsBy, last_of, last_by}
-use Rattle.gp_exchange.specs.Finds.{Opens, IsOpened, Plans, IsBegun, IsBegunBy}
+use Rattle.gp_exchange.specs.Ends.{Reads, EndsBody, RefusesBody, EndsBy, last_of, last_by}
+use Rattle.gp_exchange.specs.Finds.{IsOpened, IsBegun, IsBegunBy}
 use Rattle.gp_exchange.specs.declared.answer.ExchangeFault.TheVariants.{Body}
 use Rattle.gp_exchange.specs.declared.answer.Last.{Last}
 use Rattle.gp_exchange.specs.declared.answer.Last.TheVariants.{End, Fault, NoMemory}
@@ -47,13 +47,16 @@ last_no_memory asked head rest last e = subst (λ (l : Last). IsBegunBy asked he
 pub begun : (asked : AskedView) (head : Response) (rest : List ℕ) (plan : BodyPlan) (r : Reading) (found : Found) → plan_of_response head asked.method ≡ Ok plan → r ≡ reading_of plan asked.limit []
     → IsOpened r head rest found → IsBegun asked head rest found
 begun asked head rest plan r More planned new opened = opened
-begun asked head rest plan r (Head given reading) planned new opened = (opened.0, record {
-  plan = plan;
-  planned = planned;
-  head_is = opened.1.head_is;
-  reader = opened.1.reader ∙ ap (after_all rest) new ∙ read_first plan asked.limit rest;
-  part = opened.1.part ∙ ap (content_from rest) new ∙ given_first plan asked.limit rest;
-})
+begun asked head rest plan r (Head given reading) planned new opened = (
+  opened.0,
+  record {
+    plan = plan;
+    planned = planned;
+    head_is = opened.1.head_is;
+    reader = opened.1.reader ∙ ap (after_all rest) new ∙ read_first plan asked.limit rest;
+    part = opened.1.part ∙ ap (content_from rest) new ∙ given_first plan asked.limit rest;
+  },
+)
 begun asked head rest plan r (Over last) planned new opened = last_no_memory asked head rest last opened
 
 -- the end of the input

@@ -1,5 +1,5 @@
 -- Bytes of a body that are no content come to an end: so many of them can stand before content, the body's end or a refusal.
-use Rattle.std.proofs.Common.{◌≡◌, ℕ, zero, suc, ◌+◌, ◌-◌, ◌*◌, ◌<◌, ◌≤◌, Bool, true, false, cond, ltb, eqb, List, [], ◌∷◌, ◌++◌, length, Option, Some, None, refl, sym, ap, ◌∙◌, subst, arith, ◌&&◌, ◌||◌}
+use Rattle.std.proofs.Common.{◌≡◌, ℕ, zero, suc, ◌+◌, ◌-◌, ◌*◌, ◌<◌, ◌≤◌, Bool, true, false, ltb, eqb, List, [], ◌∷◌, ◌++◌, length, Option, Some, None, refl, sym, ap, ◌∙◌, arith, ◌&&◌, ◌||◌}
 use Rattle.std.specs.Prelude.{⊤, is_some, if◌then◌else◌}
 use Rattle.std.proofs.lemmas.Bool.{cond_both, ltb-true}
 use Rattle.gp_body.specs.declared.reading.Reading.{Reading}
@@ -50,12 +50,12 @@ module _ (b : ℕ) where
       cond_both (is_hex b) _ _ (λ (o : Option State). Falls o (49412 + (8 - digits)))
       (λ _. cond_both (ltb digits 8) _ None (λ (o : Option State). Falls o (49412 + (8 - digits))) (λ e. (let few = ltb-true digits 8 e in omega arith)) (λ _. tt))
       (λ _. cond_both (eqb digits 0) None _ (λ (o : Option State). Falls o (49412 + (8 - digits))) (λ _. tt)
-          (λ _. cond_both (eqb b 13) _ _ (λ (o : Option State). Falls o (49412 + (8 - digits))) (λ _. omega arith)
-              (λ _. cond_both (eqb b 59) _ None (λ (o : Option State). Falls o (49412 + (8 - digits))) (λ _. omega arith) (λ _. tt))))
+      (λ _. cond_both (eqb b 13) _ _ (λ (o : Option State). Falls o (49412 + (8 - digits))) (λ _. omega arith)
+      (λ _. cond_both (eqb b 59) _ None (λ (o : Option State). Falls o (49412 + (8 - digits))) (λ _. omega arith) (λ _. tt))))
   falls (Extension size line) none =
       cond_both (eqb b 13) _ _ (λ (o : Option State). Falls o (49157 + (254 - line))) (λ _. omega arith)
       (λ _. cond_both (is_extension_byte b && ltb line 254) _ None (λ (o : Option State). Falls o (49157 + (254 - line)))
-          (λ e. (let few = ltb-true line 254 (and_right_true (is_extension_byte b) (ltb line 254) e) in omega arith)) (λ _. tt))
+      (λ e. (let few = ltb-true line 254 (and_right_true (is_extension_byte b) (ltb line 254) e) in omega arith)) (λ _. tt))
   falls (SizeReturn zero) none = cond_both (eqb b 10) _ None (λ (o : Option State). Falls o 49156) (λ _. omega arith) (λ _. tt)
   falls (SizeReturn (suc n)) none = cond_both (eqb b 10) _ None (λ (o : Option State). Falls o 49156) (λ _. omega arith) (λ _. tt)
   falls (Data zero) none = cond_both (eqb b 13) _ None (λ (o : Option State). Falls o 49422) (λ _. omega arith) (λ _. tt)

@@ -1,5 +1,5 @@
 -- Heads stay where they are as more comes.
-use Rattle.std.proofs.Common.{◌≡◌, ◌≢◌, ℕ, suc, ◌+◌, ◌-◌, ◌<◌, ◌≤◌, ◌⊎◌, inl, inr, Bool, true, false, List, [], ◌++◌, take, drop, Option, Some, None, length, sym, ap, ◌∙◌, refl, subst, arith, length-drop}
+use Rattle.std.proofs.Common.{◌≡◌, ◌≢◌, ℕ, ◌+◌, ◌<◌, ◌≤◌, ◌⊎◌, inl, inr, Bool, true, false, List, ◌++◌, take, drop, Option, Some, None, length, sym, ap, ◌∙◌, refl, subst, arith, length-drop}
 use Rattle.std.proofs.lemmas.List.{drop-append-le}
 use Rattle.std.proofs.lemmas.Grind.{common_steps}
 use Rattle.gp_plain.specs.declared.http.Response.{Response}
@@ -57,17 +57,19 @@ heads_more received more h h' same grown heads = record {
 pub head_stays : (received more : List ℕ) (head : Response) (at : ℕ) → HasHead received head at → HasHead (received ++ more) head at × (drop at (received ++ more) ≡ drop at received ++ more)
 head_stays received more head at has =
     let within : at ≤ length received =
-    omega (arith, has.at_is, interim_within received has.count has.before has.interim, whole_within (drop has.before received) head has.length has.read, length-drop has.before received) in
-    (record {
-      count = has.count;
-      before = has.before;
-      length = has.length;
-      few = has.few;
-      interim = interim_stays received more has.count has.before has.interim;
-      read = whole_stays received more has.count has.before head has.length has.interim has.read;
-      final = has.final;
-      at_is = has.at_is;
-    }, drop-append-le at received more within)
+    omega (arith, has.at_is, interim_within received has.count has.before has.interim, whole_within (drop has.before received) head has.length has.read, length-drop has.before received) in (
+      record {
+        count = has.count;
+        before = has.before;
+        length = has.length;
+        few = has.few;
+        interim = interim_stays received more has.count has.before has.interim;
+        read = whole_stays received more has.count has.before head has.length has.interim has.read;
+        final = has.final;
+        at_is = has.at_is;
+      },
+      drop-append-le at received more within,
+    )
 
 drop_twice : (xs : List ℕ) (at n : ℕ) → drop n (drop at xs) ≡ drop (at + n) xs
 drop_twice xs at n = grind (arith, common_steps)

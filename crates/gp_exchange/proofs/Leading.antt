@@ -1,13 +1,13 @@
 -- How moves lead on from one another.
-use Rattle.std.proofs.Common.{◌≡◌, ℕ, ◌+◌, ◌-◌, ◌^◌, ◌<◌, ◌≤◌, ◌⊎◌, inl, inr, min, Bool, true, false, List, [], ◌∷◌, ◌++◌, length, Option, Some, None, sym, ap, ◌∙◌, refl, subst, arith, append-nil}
+use Rattle.std.proofs.Common.{◌≡◌, ℕ, ◌<◌, ◌≤◌, ◌⊎◌, inl, inr, Bool, true, List, [], ◌++◌, sym, ap, ◌∙◌, refl, subst, arith, append-nil}
 use Rattle.std.specs.Prelude.{IfSome, option_map, ⊤}
 use Rattle.gp_outside.specs.Counts.{Rose}
 use Rattle.gp_outside.specs.Dials.{DialTells, DialLater, after_hang_up}
-use Rattle.gp_outside.specs.Talks.{Talk, Talks, hung_up}
+use Rattle.gp_outside.specs.Talks.{Talk, hung_up}
 use Rattle.gp_exchange.specs.Views.{AskedView}
-use Rattle.gp_exchange.specs.Answers.{told, rank, Waits, FaultRises, Gives, Marked, IsOverBy}
+use Rattle.gp_exchange.specs.Answers.{told, rank, Waits, FaultRises, Gives}
 use Rattle.gp_exchange.specs.Standing.{IsOver, IsAt, StandsAt, part_of}
-use Rattle.gp_exchange.specs.Moves.{IsKept, Leads}
+use Rattle.gp_exchange.specs.Moves.{Leads}
 use Rattle.gp_exchange.specs.declared.answer.ExchangeFault.{ExchangeFault}
 use Rattle.gp_exchange.specs.declared.answer.ExchangeFault.TheVariants.{Dial, Head as BadHead, Interim, Plan, Body}
 use Rattle.gp_exchange.specs.declared.answer.Progress.{Progress}
@@ -104,7 +104,7 @@ no_part LastEnd = refl
 no_part (LastFault fault) = refl
 no_part LastNoMemory = refl
 
-next_is : (next : Next) (p : Place) (progress : Progress) → next.place ≡ p → next.progress ≡ progress → ◌≡◌ {A = Next} (record { place = p; progress = progress }) next
+pub next_is : (next : Next) (p : Place) (progress : Progress) → next.place ≡ p → next.progress ≡ progress → ◌≡◌ {A = Next} (record { place = p; progress = progress }) next
 next_is next p progress e f = rw (← e, ← f) refl
 
 module _ (asked : AskedView) (was : Place) (old now new : DialTells) (over : Over) (next : Next) where

@@ -5,3 +5,5 @@ pub mod Talking
 pub mod Leading
 pub mod Parts
 pub mod Headings
+pub mod Sends
+pub mod Connects

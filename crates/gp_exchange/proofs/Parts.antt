@@ -1,20 +1,19 @@
 -- The moves of an exchange that reads a body.
-use Rattle.std.proofs.Common.{◌≡◌, ℕ, ◌+◌, ◌<◌, ◌≤◌, Bool, true, false, inl, inr, List, [], ◌++◌, length, Option, Some, None, sym, ap, ◌∙◌, refl, subst, arith, append-nil}
-use Rattle.std.specs.Prelude.{IfSome, option_map, ⊤}
+use Rattle.std.proofs.Common.{◌≡◌, ℕ, ◌<◌, Bool, true, false, List, [], ◌++◌, length, Option, Some, None, sym, ap, ◌∙◌, refl, subst, arith, append-nil}
 use Rattle.gp_body.specs.declared.fed.FedFault.{FedFault}
 use Rattle.gp_body.specs.declared.reading.Reading.{Reading as BodyReading}
 use Rattle.gp_body.specs.Steps.{is_end}
 use Rattle.gp_body.specs.Readings.{content_from}
 use Rattle.gp_outside.specs.Counts.{Rose}
 use Rattle.gp_outside.specs.Dials.{DialTells, DialLater, after_hang_up}
-use Rattle.gp_outside.specs.Talks.{Talk, Talks, came, hung_up}
+use Rattle.gp_outside.specs.Talks.{Talk, Talks, came}
 use Rattle.gp_exchange.specs.Views.{AskedView}
 use Rattle.gp_exchange.specs.Hearing.{Comes, ReadsOn}
 use Rattle.gp_exchange.specs.Answers.{told}
 use Rattle.gp_exchange.specs.Ends.{Reads, Ends, EndsBy, IsBodyEnd, last_of, last_by}
-use Rattle.gp_exchange.specs.Standing.{IsPresent, IsReading, IsAt, StandsAt}
+use Rattle.gp_exchange.specs.Standing.{IsReading, StandsAt}
 use Rattle.gp_exchange.specs.Moves.{Leads}
-use Rattle.gp_exchange.specs.declared.answer.Progress.TheVariants.{Part, NotReady}
+use Rattle.gp_exchange.specs.declared.answer.Progress.TheVariants.{Part}
 use Rattle.gp_exchange.specs.declared.answer.ExchangeFault.TheVariants.{Dial, Head, Interim, Plan, Body}
 use Rattle.gp_exchange.specs.declared.answer.Last.{Last}
 use Rattle.gp_exchange.specs.declared.answer.Last.TheVariants.{End, Fault, NoMemory}
@@ -34,8 +33,8 @@ module _ (asked : AskedView) (r : Reading) (none : r.part ≡ []) (old now new :
   reading_over over next e f hung later same gives marked cause =
       leads_over asked (place.Reading r) old now new over next e f hung (omega arith) later gives marked
       (λ before given s. told_same (IsReading asked before given r) (HangsUp asked before given over) old.talks now.talks same
-          (λ talks at. reading_ends asked before given [] r over talks talks none (λ sent received. present_stays asked before sent received talks)
-              (λ received reads. subst (λ (x : List ℕ). Ends asked over given x) (sym (append-nil received)) (cause given received reads)) at) s)
+      (λ talks at. reading_ends asked before given [] r over talks talks none (λ sent received. present_stays asked before sent received talks)
+      (λ received reads. subst (λ (x : List ℕ). Ends asked over given x) (sym (append-nil received)) (cause given received reads)) at) s)
 
   -- bytes that came are lost
   pub reading_lost : (more : List ℕ) (over : Over) (next : Next) → next.place ≡ place.Over over → next.progress ≡ told over.last → new ≡ after_hang_up now → DialLater old now → Comes old now more
@@ -43,8 +42,8 @@ module _ (asked : AskedView) (r : Reading) (none : r.part ≡ []) (old now new :
   reading_lost more over next e f hung later comes memory mark =
       leads_over asked (place.Reading r) old now new over next e f hung (omega arith) later (rw memory tt) (λ m. (let never : true ≡ false = sym m ∙ mark in cc))
       (λ before given s. told_on (IsReading asked before given r) (HangsUp asked before given over) (came more) old.talks now.talks comes.talks
-          (λ talks at. reading_ends asked before given more r over talks (came more talks) none (λ sent received. present_came asked before sent received more talks)
-              (λ received reads. subst (λ (l : Last). EndsBy asked l over.ended over.head given (received ++ more)) (sym memory) tt) at) s)
+      (λ talks at. reading_ends asked before given more r over talks (came more talks) none (λ sent received. present_came asked before sent received more talks)
+      (λ received reads. subst (λ (l : Last). EndsBy asked l over.ended over.head given (received ++ more)) (sym memory) tt) at) s)
 
   -- content came
   pub stands_on : (r' : Reading) (part more : List ℕ) → r'.head ≡ r.head → r'.part ≡ [] → Comes old now more → ReadsOn r.reader r'.reader [] part more

@@ -1,16 +1,15 @@
 -- How talks stand behind an exchange as calls of the dialer move them.
-use Rattle.std.proofs.Common.{◌≡◌, ◌≢◌, ℕ, ◌+◌, ◌<◌, ◌≤◌, List, [], ◌∷◌, ◌++◌, take, drop, length, Option, Some, None, sym, ap, ◌∙◌, refl, subst, arith, append-nil}
+use Rattle.std.proofs.Common.{◌≡◌, ◌≢◌, ℕ, ◌<◌, List, [], ◌∷◌, ◌++◌, take, drop, Option, Some, None, sym, ap, ◌∙◌, refl, subst, arith, append-nil}
 use Rattle.std.specs.Prelude.{IfSome, option_map}
 use mathlib.Core.List.{IsPrefix}
 use Rattle.std.proofs.lemmas.List.{take-append-drop}
-use Rattle.gp_outside.specs.Talks.{Talk, Talks, dialed, wrote, came, hung_up, all_of}
-use Rattle.gp_body.specs.Readings.{after_all}
+use Rattle.gp_outside.specs.Talks.{Talk, Talks, wrote, came, hung_up, all_of}
 use Rattle.gp_exchange.specs.Views.{AskedView}
 use Rattle.gp_exchange.specs.Heads.{HeadsSoFar}
 use Rattle.gp_exchange.specs.Hearing.{ReadsOn}
 use Rattle.gp_exchange.specs.Answers.{rank}
 use Rattle.gp_exchange.specs.Ends.{Reads, Ends}
-use Rattle.gp_exchange.specs.Standing.{IsPresent, IsTalk, IsUnbegun, IsSending, IsHeading, IsReading, IsOver, IsAt, StandsAt, HasTalk}
+use Rattle.gp_exchange.specs.Standing.{IsPresent, IsHeading, IsReading, IsOver, IsAt, StandsAt, HasTalk}
 use Rattle.gp_exchange.specs.declared.heading.Heading.{Heading}
 use Rattle.gp_exchange.specs.declared.reading.Reading.{Reading}
 use Rattle.gp_exchange.specs.declared.place.Over.{Over}
@@ -129,3 +128,6 @@ module _ (asked : AskedView) (before : List Talk) where
     all = ap (λ (o : Option Talk). all_of (record { over = talks.over; present = o })) s.present ∙ append-nil talks.over ∙ s.over;
     is_talk = s.is_talk;
   }
+
+pub talked : (asked : AskedView) (before : List Talk) (given : List ℕ) (p : Place) (talks : Option Talks) → 0 < rank p → StandsAt asked before given p talks → IfSome talks (HasTalk asked before)
+talked asked before given p talks begun s = told_same (IsAt asked before given p) (HasTalk asked before) talks talks refl (λ t at. has_talk asked before given p t begun at) s

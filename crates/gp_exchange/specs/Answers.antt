@@ -1,5 +1,5 @@
 -- What an answer of a poll says of the exchange and of the dialer's counts.
-use Rattle.std.specs.Prelude.{ℕ, ◌≡◌, ◌<◌, ◌≤◌, Bool, true, false, List, [], length, None}
+use Rattle.std.specs.Prelude.{ℕ, ◌≡◌, ◌<◌, ◌≤◌, Bool, true, false, [], length, None}
 use Rattle.gp_plain.specs.declared.http.Response.{Response}
 use Rattle.gp_head.specs.declared.read.HeadRead.TheVariants.{More as Open}
 use Rattle.gp_head.specs.Heads.{IsRead, IsResponseText}

@@ -11,7 +11,6 @@ use Rattle.gp_body.specs.Steps.{is_end}
 use Rattle.gp_body.specs.Wholes.{reading_of, content_of, is_ended, fault_of, CutsAt}
 use Rattle.gp_exchange.specs.Views.{AskedView}
 use Rattle.gp_exchange.specs.Heads.{HasHead, RefusesHead, RefusesInterim}
-use Rattle.gp_exchange.specs.declared.answer.ExchangeFault.{ExchangeFault}
 use Rattle.gp_exchange.specs.declared.answer.ExchangeFault.TheVariants.{Dial, Head, Interim, Plan, Body}
 use Rattle.gp_exchange.specs.declared.answer.Last.{Last}
 use Rattle.gp_exchange.specs.declared.answer.Last.TheVariants.{End, Fault, NoMemory}

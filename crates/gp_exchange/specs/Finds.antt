@@ -1,5 +1,5 @@
 -- What is found of a response's head in the bytes that came.
-use Rattle.std.specs.Prelude.{ℕ, ◌≡◌, ◌≤◌, false, List, [], ◌++◌, length, None, Ok, Err, ⊤}
+use Rattle.std.specs.Prelude.{ℕ, ◌≡◌, ◌≤◌, false, List, [], None, Ok, Err, ⊤}
 use Rattle.gp_plain.specs.declared.http.Response.{Response}
 use Rattle.gp_head.specs.declared.read.HeadRead.TheVariants.{More as Open}
 use Rattle.gp_head.specs.Heads.{IsRead, IsResponseText}

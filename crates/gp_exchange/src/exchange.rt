@@ -1,9 +1,9 @@
-ghost use Rattle.std.specs.Prelude.{◌≡◌, ◌++◌, List, ℕ};
+ghost use Rattle.std.specs.Prelude.{◌≡◌, ◌++◌, [], IfSome, List, ℕ};
 ghost use Rattle.gp_exchange.specs.Answers.{Gives, Marked};
 ghost use Rattle.gp_exchange.specs.Standing.{Stands, Talked, part_of};
 ghost use Rattle.gp_exchange.specs.Moves.{IsKept, Leads, StaysOver};
 ghost use Rattle.gp_exchange.specs.declared.place.Place.TheVariants as place;
-ghost use Rattle.gp_outside.specs.Dials.{DialLater};
+ghost use Rattle.gp_outside.specs.Dials.{DialLater, DialTells, IsIdle};
 ghost use Rattle.gp_outside.specs.Talks.{Talk};
 
 use crate::answer::{ExchangeFault, Last, Progress};
@@ -41,6 +41,7 @@ impl Exchange {
     pub fn new(alloc: Global, to: Address, request: Body, method: Body, limit: u64) -> Exchange
         ensures asked { result.asked ≡ record { to = to; request = request; method = method; limit = limit } }
         ensures place { result.place ≡ place.Unbegun request }
+        ensures unbegun { (dial : DialTells) → IsIdle dial → IfSome dial.talks (λ talks. Stands talks.over [] result dial) }
     {
         let asked = Asked {
             to,

@@ -9,8 +9,8 @@
 
 mod answer;
 mod exchange;
-mod heads;
 mod heading;
+mod heads;
 mod place;
 mod reading;
 mod sending;

@@ -1,4 +1,4 @@
-use Rattle.std.proofs.Common.{◌≡◌, List, [], ℕ, sym, ◌∙◌, ap}
+use Rattle.std.proofs.Common.{◌≡◌, [], sym, ◌∙◌, ap}
 use Rattle.gp_body.specs.Plans.{plan_of_response}
 use Rattle.gp_body.specs.Wholes.{reading_of}
 use Rattle.gp_exchange.specs.Views.{AskedView}

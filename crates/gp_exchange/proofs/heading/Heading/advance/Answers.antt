@@ -1,4 +1,4 @@
-use Rattle.std.proofs.Common.{◌≡◌, ◌∙◌, ◌++◌, refl, inr, sym, arith, List, ℕ}
+use Rattle.std.proofs.Common.{refl, inr, arith}
 use Rattle.gp_exchange.specs.declared.heading.Heading.{Heading}
 use Rattle.gp_exchange.specs.declared.place.Place.TheVariants as place
 use Rattle.gp_exchange.proofs.Leading.{leads_before, later_later}

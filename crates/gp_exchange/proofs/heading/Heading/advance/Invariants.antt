@@ -1,4 +1,4 @@
-use Rattle.std.proofs.Common.{◌≡◌, List, ℕ}
+use Rattle.std.proofs.Common.{List, ℕ}
 use Rattle.gp_outside.specs.Dials.{DialLater}
 use Rattle.gp_outside.specs.Talks.{Talk}
 use Rattle.gp_exchange.specs.Standing.{StandsAt}

@@ -1,7 +1,6 @@
-use Rattle.std.proofs.Common.{◌≡◌, ◌+◌, ◌≤◌, List, ℕ, length, drop, inl, inr, refl, sym, ◌∙◌, ap, subst, arith}
-use Rattle.gp_head.specs.declared.read.HeadRead.TheVariants.{Whole, Bad, TooMany, TooLong}
-use Rattle.gp_exchange.specs.declared.heading.Heading.{Heading}
-use Rattle.gp_exchange.proofs.Interim.{whole_within, heads_cut, found_head, no_head, no_interim, begun_finds}
+use Rattle.std.proofs.Common.{length, drop, inl, inr, refl, sym, ◌∙◌, ap, arith}
+use Rattle.gp_head.specs.declared.read.HeadRead.TheVariants.{Bad, TooMany, TooLong}
+use Rattle.gp_exchange.proofs.Interim.{whole_within, heads_cut, found_head, no_head, no_interim}
 use Rattle.gp_exchange.proofs.heading.Heading.find.Goals as goal
 use Rattle.gp_exchange.proofs.heading.Heading.find.Goals.{then-head-eq101-via-then-head-eq101, then-head-eq101-via-else-head-eq101+then-self-eq-MAX_INTERIM}
 

@@ -1,4 +1,4 @@
-use Rattle.std.proofs.Common.{◌≡◌, List, ℕ, subst, ◌∙◌}
+use Rattle.std.proofs.Common.{List, ℕ, subst, ◌∙◌}
 use Rattle.gp_head.specs.Heads.{IsRead, IsResponseText}
 use Rattle.gp_exchange.proofs.heads.HeadBytes.read.Goals as goal
 

@@ -1,4 +1,4 @@
-use Rattle.std.proofs.Common.{◌≡◌, ◌<◌, ◌∙◌, ◌++◌, length, List, ℕ, [], ap, sym, inr, refl, arith, subst, Some, None, false}
+use Rattle.std.proofs.Common.{◌≡◌, ◌<◌, ◌∙◌, length, [], ap, sym, inr, refl, arith, Some, false}
 use Rattle.std.proofs.lemmas.List.{nil_from_length}
 use Rattle.gp_exchange.specs.Answers.{told}
 use Rattle.gp_exchange.specs.declared.answer.Last.TheVariants.{NoMemory}
