@@ -1,0 +1,18 @@
+use Rattle.std.proofs.Common.{List, ℕ}
+use Rattle.gp_outside.specs.Dials.{DialLater}
+use Rattle.gp_outside.specs.Talks.{Talk}
+use Rattle.gp_exchange.specs.Standing.{StandsAt}
+use Rattle.gp_exchange.specs.Moves.{IsKept}
+use Rattle.gp_exchange.specs.declared.place.Place.TheVariants as place
+use Rattle.gp_exchange.proofs.Headings.{head_left}
+use Rattle.gp_exchange.proofs.heading.Heading.advance.Given as goal
+
+abbrev pub invariant-loop-self : goal.invariant-loop-self
+invariant-loop-self g l = record {
+  kept : IsKept l.asked (place.Heading l.self);
+  later : DialLater (g.D.Dial.tells l.fn.dial) (g.D.Dial.tells l.dial);
+  stands : (before : List Talk) (given : List ℕ) → StandsAt l.asked before given (place.Heading l.fn.self) (g.D.Dial.tells l.fn.dial).talks → StandsAt l.asked before given (place.Heading l.self) (g.D.Dial.tells l.dial).talks;
+}
+
+abbrev pub decreases-loop-self : goal.decreases-loop-self
+decreases-loop-self g l = head_left l.self
