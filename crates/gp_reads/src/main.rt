@@ -1,5 +1,5 @@
-//! The rows that the readers are tested by: texts of heads, bodies, routes, instructions, publish bodies and tokens, and what each reader
-//! answers.
+//! The rows that the readers are tested by: texts of heads, bodies, routes, instructions, publish bodies, tokens and handshakes, and what
+//! each reader answers.
 //!
 //! Each line of standard input is a kind, its arguments, and a text; the stored output repeats the line and has the
 //! answer behind `=`, worked out by hand from the rules of docs/PROTOCOL.md and the standards. `text.rt` says how texts are escaped. So a
@@ -9,6 +9,7 @@
 mod answers;
 mod bodies;
 mod grip;
+mod handshakes;
 mod heads;
 mod items;
 mod json;
@@ -121,6 +122,8 @@ fn of_others(alloc: Global, kind: &str, row: &Row<'_>) -> Result<Option<Vec<u8>>
             let key = unescaped(alloc, row.first)?;
             tokens::mac(alloc, key.as_slice(), row.behind_first.as_slice())?
         }
+        "accept-key" => handshakes::accepted(alloc, row.whole.as_slice())?,
+        "handshake" => handshakes::shaken(alloc, row.whole.as_slice())?,
         "token" => tokens::written(alloc, row.first, row.second, row.rest)?,
         "check" => tokens::checked(alloc, row.first, row.second, row.rest)?,
         _ => return Ok(None),
