@@ -1,5 +1,5 @@
-ghost use Rattle.std.specs.Prelude.{◌≡◌, ◌++◌, [], IfSome, List, ℕ};
-ghost use Rattle.gp_exchange.specs.Answers.{Gives, Marked};
+ghost use Rattle.std.specs.Prelude.{◌≡◌, ◌==◌, ◌++◌, [], IfSome, List, ℕ};
+ghost use Rattle.gp_exchange.specs.Answers.{Gives, Marked, rank};
 ghost use Rattle.gp_exchange.specs.Standing.{Stands, Talked, part_of};
 ghost use Rattle.gp_exchange.specs.Moves.{IsKept, Leads, StaysOver};
 ghost use Rattle.gp_exchange.specs.declared.place.Place.TheVariants as place;
@@ -54,6 +54,13 @@ impl Exchange {
             asked,
             place: Place::Unbegun(request),
         }
+    }
+
+    /// Whether the talk is over: each poll gives the same answer from now on.
+    pub fn is_over(&self) -> bool
+        ensures { result ≡ (rank self.now.place == 5) }
+    {
+        matches!(self.place, Place::Over(_))
     }
 
     /// Goes on with the talk: connects, then writes until all of the request is sent, and then reads, until there is something to

@@ -1,3 +1,5 @@
 pub mod Wires
 pub mod Seats
 pub mod Causes
+pub mod Lines
+pub mod Watches

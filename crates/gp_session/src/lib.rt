@@ -9,8 +9,12 @@
 //! `gp_outside`, `gp_outbox`, `gp_intake` and `gp_hub`, and has no handle.
 #![tactic(auto)]
 
+mod line;
 mod seat;
+mod watch;
 mod wire;
 
+pub use line::Line;
 pub use seat::{Published, Seat};
+pub use watch::Watch;
 pub use wire::Wire;
