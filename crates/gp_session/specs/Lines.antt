@@ -3,7 +3,7 @@ use Rattle.std.specs.Prelude.{ℕ, zero, suc, ◌≡◌, ◌≢◌, List, [], �
 use mathlib.Core.List.{IsPrefix}
 use Rattle.gp_plain.specs.declared.http.Address.{Address}
 use Rattle.gp_outside.specs.Dials.{DialTells, DialLater}
-use Rattle.gp_outside.specs.Talks.{Talk, Talks, all_of}
+use Rattle.gp_outside.specs.Talks.{Talk, Talks, all_of, hung_up}
 use Rattle.gp_exchange.specs.Views.{AskedView, ExchangeView}
 use Rattle.gp_exchange.specs.Answers.{rank}
 use Rattle.gp_exchange.specs.Standing.{StandsAt}
@@ -48,19 +48,32 @@ pub record Said : Type 0 where
   pub exchange : ExchangeView
   pub given : List ℕ
 
--- no talk is present, or it stands as the exchange left it
-abbrev pub StandsOpen : List Talk → Option Said → Option Talks → Type 0
-StandsOpen before None talks = IfSome talks (λ (now : Talks). (now.over ≡ before) × (now.present ≡ None))
-StandsOpen before (Some said) talks = StandsAt said.exchange.asked before said.given said.exchange.place talks
+-- the last exchange: there is none, it goes on, or its talk was hung up
+pub data Last : Type 0 where
+  idle : Last
+  speaking : Said → Last
+  hung : Said → Last
 
--- behind the talks before the session, those of its own have these aims, and the exchange stands behind them
-pub record LineStands (before : List Talk) (aims : List Aim) (last : Option Said) (talks : Option Talks) : Type 0 where
+-- the talks stood as the exchange left them, and then the present one was hung up
+pub record StandsHung (before : List Talk) (said : Said) (now : Talks) : Type 0 where
+  pub was : Talks
+  pub stood : StandsAt said.exchange.asked before said.given said.exchange.place (Some was)
+  pub now_is : now ≡ hung_up was
+
+-- behind the talks before: no talk is present, or it stands as the exchange left it, or it was hung up then
+abbrev pub StandsLast : List Talk → Last → Option Talks → Type 0
+StandsLast before idle talks = IfSome talks (λ (now : Talks). (now.over ≡ before) × (now.present ≡ None))
+StandsLast before (speaking said) talks = StandsAt said.exchange.asked before said.given said.exchange.place talks
+StandsLast before (hung said) talks = IfSome talks (StandsHung before said)
+
+-- behind the talks before the session, those of its own have these aims, and the last exchange stands behind them
+pub record LineStands (before : List Talk) (aims : List Aim) (last : Last) (talks : Option Talks) : Type 0 where
   pub mine : List Talk
   pub aimed : AreAimed aims mine
-  pub stands : StandsOpen (before ++ mine) last talks
+  pub stands : StandsLast (before ++ mine) last talks
 
--- Row: the talks. Those that are over have these aims, in order, and the last exchange stands behind them.
-abbrev pub LineRow : LineView → List Aim → Option Said → Type 0
+-- Row: the talks. Those before that of the last exchange have these aims, in order, and the last exchange stands behind them.
+abbrev pub LineRow : LineView → List Aim → Last → Type 0
 LineRow l aims last = IfSome l.start.talks (λ (was : Talks). LineStands was.over aims last l.dial.talks)
 
 -- one aim more, but where nothing has begun
@@ -72,9 +85,10 @@ abbrev pub begun_with : List Aim → ExchangeView → List Aim
 begun_with aims x = more_if (rank x.place) aims (aim_of x.asked)
 
 -- the aims of all talks: that of the last exchange too, where it has begun
-abbrev pub aims_with : List Aim → Option Said → List Aim
-aims_with aims None = aims
-aims_with aims (Some said) = begun_with aims said.exchange
+abbrev pub aims_with : List Aim → Last → List Aim
+aims_with aims idle = aims
+aims_with aims (speaking said) = begun_with aims said.exchange
+aims_with aims (hung said) = begun_with aims said.exchange
 
 -- what the talks since the session began were: each has its aim, in order
 pub record HasTalks (before : List Talk) (aims : List Aim) (talks : Talks) : Type 0 where

@@ -1,11 +1,9 @@
 //! The origin's end of a session.
-ghost use Rattle.std.specs.Prelude.{◌≡◌, ◌++◌, [], List, ℕ, Some, None};
-ghost use Rattle.gp_outside.specs.Dials.{after_hang_up};
-ghost use Rattle.gp_outside.specs.Talks.{Talk};
+ghost use Rattle.std.specs.Prelude.{◌≡◌, ◌++◌, List, ℕ};
 ghost use Rattle.gp_exchange.specs.Answers.{Gives, Marked, rank};
 ghost use Rattle.gp_exchange.specs.Moves.{StaysOver};
 ghost use Rattle.gp_exchange.specs.Standing.{part_of};
-ghost use Rattle.gp_session.specs.Lines.{Aim, LineRow, MovedLine, Said, begun_with, new_line};
+ghost use Rattle.gp_session.specs.Lines.{Aim, LineRow, MovedLine, hung, new_line, speaking};
 
 use gp_exchange::{Exchange, Progress};
 use gp_outside::Dial;
@@ -46,16 +44,16 @@ impl<D: Dial> Line<D> {
         ensures gives { Gives exchange.old.place exchange.new.place self.old.dial self.new.dial result }
         ensures marked { Marked exchange.old.place exchange.new.place self.old.dial self.new.dial }
         ensures over { StaysOver exchange.old.place exchange.new.place self.old.dial self.new.dial result }
-        ensures row { (aims : List Aim) (given : List ℕ) → LineRow self.old aims (Some (record { exchange = exchange.old; given = given })) → LineRow self.new aims (Some (record { exchange = exchange.new; given = given ++ part_of result })) }
+        ensures row { (aims : List Aim) (given : List ℕ) → LineRow self.old aims (speaking (record { exchange = exchange.old; given = given })) → LineRow self.new aims (speaking (record { exchange = exchange.new; given = given ++ part_of result })) }
     {
         exchange.poll(&mut self.dial)
     }
 
-    /// Ends the talk of an exchange. Where it had begun, its aim is that of one talk more.
+    /// Ends the talk of an exchange, which then isn't polled any more.
     pub fn hang_up(&mut self, exchange: &Exchange)
         ensures moved { MovedLine self.old self.new }
         ensures dial { rank exchange.now.place ≡ 5 → self.new ≡ self.old }
-        ensures row { (aims : List Aim) (given : List ℕ) → LineRow self.old aims (Some (record { exchange = exchange.now; given = given })) → LineRow self.new (begun_with aims exchange.now) None }
+        ensures row { (aims : List Aim) (given : List ℕ) → LineRow self.old aims (speaking (record { exchange = exchange.now; given = given })) → LineRow self.new aims (hung (record { exchange = exchange.now; given = given })) }
     {
         if !exchange.is_over() {
             self.dial.hang_up();
