@@ -6,4 +6,3 @@ pub mod Leading
 pub mod Parts
 pub mod Headings
 pub mod Sends
-pub mod Connects
