@@ -3,3 +3,5 @@ pub mod Digits
 pub mod Planning
 pub mod Values
 pub mod Alone
+pub mod Tokens
+pub mod Conditions
