@@ -2,6 +2,7 @@ pub mod Bodies
 pub mod Interim
 pub mod Framing
 pub mod Talking
+pub mod Causes
 pub mod Leading
 pub mod Parts
 pub mod Headings
