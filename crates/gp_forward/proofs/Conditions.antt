@@ -1,5 +1,5 @@
 -- What meets the condition of a request that is forwarded.
-use Rattle.std.proofs.Common.{◌≡◌, ℕ, ◌+◌, ◌-◌, ◌<◌, Bool, true, false, ◌&&◌, eqb, List, [], ◌∷◌, ◌++◌, length, get_or, reverse, codes, suc, not, ◌||◌, eq-eqb, filter, refl, sym, ap, ◌∙◌, subst, arith, length-append}
+use Rattle.std.proofs.Common.{◌≡◌, ℕ, ◌+◌, ◌-◌, ◌<◌, Bool, true, false, ◌&&◌, eqb, List, [], ◌∷◌, ◌++◌, length, get_or, reverse, codes, suc, not, ◌||◌, eq-eqb, filter, refl, sym, ap, ◌∙◌, subst, arith, length-append, inl, inr, Option, Some, None}
 use Rattle.std.specs.List.{list_all}
 use Rattle.std.proofs.lemmas.Bool.Decides.{nat_tests}
 use Rattle.std.proofs.lemmas.List.{reverse-append, reverse-reverse, length-reverse, get_or-reverse}
@@ -11,9 +11,13 @@ use Rattle.gp_plain.specs.declared.item.Field.{Field}
 use Rattle.gp_plain.specs.declared.http.Request.{Request}
 use Rattle.gp_head.specs.Writable.{AreWritable, IsFieldName, IsFieldValue, IsWritableField, HeadLaw}
 use Rattle.gp_head.proofs.RoundTrip.{StartsFilled, not_skipped}
+use Rattle.http_uri.specs.Grammar.{or_slash}
+use Rattle.gp_head.specs.Targets.{IsSplit}
+use Rattle.gp_instruct.specs.Targets.{IsTarget}
 use Rattle.gp_routes.specs.Parts.{is_host, is_host_byte}
 use Rattle.gp_forward.specs.Forwards.{field}
-use Rattle.gp_forward.specs.Conditions.{CanAsk, post_fields, changed, ForwardLaw}
+use Rattle.gp_forward.specs.Conditions.{CanAsk, post_fields, changed, redirected, ForwardLaw}
+use Rattle.gp_forward.proofs.Paths.{path_splits}
 use Rattle.gp_forward.proofs.Tokens.{token_stands}
 use Rattle.gp_forward.proofs.Values.{text_stands, named_by}
 
@@ -28,6 +32,24 @@ can_change law head method keep more can token stands = record {
   };
   target = can.target;
 }
+
+get_method : IsToken (codes "GET")
+unfolding is_token_byte
+get_method = (omega arith, AllPass-from_list_all is_token_byte (codes "GET") refl)
+
+post_method : IsToken (codes "POST")
+unfolding is_token_byte
+post_method = (omega arith, AllPass-from_list_all is_token_byte (codes "POST") refl)
+
+pub can_link : HeadLaw → (head : Request) (method link path : List ℕ) (authority : Option (List ℕ)) → CanAsk head → IsToken method → IsSplit link path authority → CanAsk (redirected method path head)
+can_link law head method link path authority can token split = record {
+  asks = record { method = token; target = law.target link path authority split; fields = can.asks.fields };
+  target = path_splits link path authority split;
+}
+
+pub link_splits : (uri : List ℕ) → IsTarget uri → (path : List ℕ) × (authority : Option (List ℕ)) × IsSplit uri path authority
+link_splits uri (inl form) = (or_slash form.0, None, (form.0, (form.1, form.2), refl))
+link_splits uri (inr form) = (or_slash form.2, Some form.1, (form.2, (form.0, form.3, form.4), refl))
 
 type_name : IsFieldName (codes "content-type")
 unfolding is_token_byte
@@ -151,6 +173,9 @@ pub forward_holds : HeadLaw → ForwardLaw
 forward_holds law = record {
   read = λ bytes head n path authority read split. record { asks = (law.request_read bytes head n read).0; target = (path, authority, split) };
   changes = can_change law;
+  linked = can_link law;
+  link = link_splits;
+  methods = (get_method, post_method);
   posts = posts_stand law;
   host = host_stands law;
   token = token_stands law;

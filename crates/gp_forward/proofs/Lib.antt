@@ -4,4 +4,5 @@ pub mod Planning
 pub mod Values
 pub mod Alone
 pub mod Tokens
+pub mod Paths
 pub mod Conditions
