@@ -5,9 +5,9 @@ use Rattle.gp_outside.specs.Counts.{Rose}
 use Rattle.gp_outside.specs.Dials.{DialTells, DialLater, after_hang_up}
 use Rattle.gp_outside.specs.Talks.{Talk, hung_up}
 use Rattle.gp_exchange.specs.Views.{AskedView}
-use Rattle.gp_exchange.specs.Answers.{told, rank, Waits, FaultRises, Gives}
+use Rattle.gp_exchange.specs.Answers.{told, rank, FaultRises, Gives}
 use Rattle.gp_exchange.specs.Standing.{IsOver, IsAt, StandsAt, part_of}
-use Rattle.gp_exchange.specs.Moves.{Leads}
+use Rattle.gp_exchange.specs.Moves.{Leads, StaysOver}
 use Rattle.gp_exchange.specs.declared.answer.ExchangeFault.{ExchangeFault}
 use Rattle.gp_exchange.specs.declared.answer.ExchangeFault.TheVariants.{Dial, Head as BadHead, Interim, Plan, Body}
 use Rattle.gp_exchange.specs.declared.answer.Progress.{Progress}
@@ -18,6 +18,7 @@ use Rattle.gp_exchange.specs.declared.place.Next.{Next}
 use Rattle.gp_exchange.specs.declared.place.Over.{Over}
 use Rattle.gp_exchange.specs.declared.place.Place.{Place}
 use Rattle.gp_exchange.specs.declared.place.Place.TheVariants as place
+use Rattle.gp_exchange.proofs.Causes.{rose_from, waits_from}
 use Rattle.gp_exchange.proofs.Talking.{told_on, HangsUp, hangs_up}
 
 pub later_later : (a b c : DialTells) → DialLater a b → DialLater b c → DialLater a c
@@ -35,22 +36,11 @@ later_same a = record { faults = omega arith; connect_waits = omega arith; read_
 pub later_hung_up : (a b : DialTells) → DialLater a b → DialLater a (after_hang_up b)
 later_hung_up a b h = record { faults = h.faults; connect_waits = h.connect_waits; read_waits = h.read_waits; write_waits = h.write_waits; ends = h.ends }
 
-rose_before : (a b c : ℕ) → a ≤ b → Rose b c → Rose a c
-rose_before a b c le rose = omega (arith, le, rose)
-
 -- ---- a move behind others
 
 module _ (asked : AskedView) (was mid : Place) (old now new : DialTells) (later : DialLater old now) (onward : rank was ≤ rank mid) (near : (rank mid < 4) ⊎ (rank was ≡ rank mid)) (live : rank mid < 5) where
-  waits_before : (is : Place) → Waits is now new → Waits is old new
-  waits_before (place.Unbegun request) w = w
-  waits_before (place.Connecting request) w = rose_before _ _ _ later.connect_waits w
-  waits_before (place.Sending sending) w = (w.0, rose_before _ _ _ later.write_waits w.1)
-  waits_before (place.Heading heading) w = (w.0, rose_before _ _ _ later.read_waits w.1)
-  waits_before (place.Reading reading) w = (w.0, rose_before _ _ _ later.read_waits w.1)
-  waits_before (place.Over over) w = w
-
   fault_before : (fault : ExchangeFault) → FaultRises fault mid now new → FaultRises fault was old new
-  fault_before Dial rises = λ _. rose_before _ _ _ later.faults (rises live)
+  fault_before Dial rises = λ _. rose_from _ _ _ later.faults (rises live)
   fault_before BadHead rises = tt
   fault_before Interim rises = tt
   fault_before (Plan fault) rises = tt
@@ -63,7 +53,7 @@ module _ (asked : AskedView) (was mid : Place) (old now new : DialTells) (later 
   gives_before is (Head head) g = (omega (arith, g.0, onward), g.1)
   gives_before is (Part part) g = (g.0, far (omega (arith, g.1)) ∙ g.1, g.2)
   gives_before is End g = (omega (arith, far g.0, g.0), g.1)
-  gives_before is NotReady g = (omega (arith, g.0, onward), waits_before is g.1)
+  gives_before is NotReady g = (omega (arith, g.0, onward), waits_from old now new later is g.1)
   gives_before is (Fault fault) g = (g.0, fault_before fault g.1)
   gives_before is NoMemory g = g
 
@@ -74,7 +64,7 @@ module _ (asked : AskedView) (was mid : Place) (old now new : DialTells) (later 
     begun = leads.begun;
     later = later_later old now new later leads.later;
     gives = gives_before next.place next.progress leads.gives;
-    marked = λ mark less. rose_before _ _ _ later.ends (leads.marked mark live);
+    marked = λ mark less. rose_from _ _ _ later.ends (leads.marked mark live);
     stands = λ before given s. leads.stands before given (stands before given s);
     over = λ over. absurd (omega (arith, over, onward, live));
   }
@@ -130,3 +120,25 @@ module _ (asked : AskedView) (was : Place) (old now new : DialTells) (over : Ove
   leads_over e f hung live later gives marked stands =
       subst (λ (d : DialTells). Leads asked was old d next) (sym hung)
       (subst (λ (n : Next). Leads asked was old (after_hang_up now) n) (next_is next (place.Over over) (told over.last) e f) (ends_there live later gives marked stands))
+
+-- ---- an exchange that is over
+
+-- what an end answers
+last_told : (over : Over) (old now : DialTells) (progress : Progress) → Gives (place.Over over) (place.Over over) old now progress → progress ≡ told over.last
+last_told over old now (Head head) g = absurd g.1
+last_told over old now (Part part) g = absurd (omega (arith, g.1))
+last_told over old now End g = ap told (sym g.1)
+last_told over old now NotReady g = absurd g.1
+last_told over old now (Fault fault) g = ap told (sym g.0)
+last_told over old now NoMemory g = ap told (sym g)
+
+pub stays_over : (asked : AskedView) (was : Place) (old now : DialTells) (next : Next) → Leads asked was old now next → StaysOver was next.place old now next.progress
+stays_over asked (place.Unbegun request) old now next leads last is = absurd is
+stays_over asked (place.Connecting request) old now next leads last is = absurd is
+stays_over asked (place.Sending sending) old now next leads last is = absurd is
+stays_over asked (place.Heading heading) old now next leads last is = absurd is
+stays_over asked (place.Reading reading) old now next leads last is = absurd is
+stays_over asked (place.Over over) old now next leads last is =
+    let same = leads.over (omega arith) in
+    let gives = subst (λ (p : Place). Gives (place.Over over) p old now next.progress) same.1 leads.gives in
+    (same.1, same.0, last_told over old now next.progress gives ∙ ap told is)

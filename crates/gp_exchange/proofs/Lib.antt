@@ -2,8 +2,8 @@ pub mod Bodies
 pub mod Interim
 pub mod Framing
 pub mod Talking
+pub mod Causes
 pub mod Leading
 pub mod Parts
 pub mod Headings
 pub mod Sends
-pub mod Connects

@@ -5,9 +5,10 @@ use Rattle.gp_head.specs.Heads.{IsRead, IsResponseText}
 use Rattle.gp_outside.specs.Dials.{DialTells, DialLater}
 use Rattle.gp_outside.specs.Talks.{Talk}
 use Rattle.gp_exchange.specs.Views.{AskedView}
-use Rattle.gp_exchange.specs.Answers.{rank, told, Gives, Marked}
+use Rattle.gp_exchange.specs.Answers.{rank, told, Gives, IsOverBy, Marked}
 use Rattle.gp_exchange.specs.Standing.{part_of, StandsAt}
 use Rattle.gp_exchange.specs.declared.answer.Progress.{Progress}
+use Rattle.gp_exchange.specs.declared.answer.Last.{Last}
 use Rattle.gp_exchange.specs.declared.place.Next.{Next}
 use Rattle.gp_exchange.specs.declared.place.Place.{Place}
 use Rattle.gp_exchange.specs.declared.place.Place.TheVariants.{Unbegun, Connecting, Sending, Heading, Reading, Over}
@@ -31,11 +32,6 @@ pub record Leads (asked : AskedView) (was : Place) (old now : DialTells) (next :
   pub stands : (before : List Talk) (given : List ℕ) → StandsAt asked before given was old.talks → StandsAt asked before (given ++ part_of next.progress) next.place now.talks
   pub over : 5 ≤ rank was → (now ≡ old) × (next.place ≡ was)
 
--- once it is over, the dialer isn't called, and the answer is the same again
+-- once it is over, the dialer isn't called, nothing changes, and the answer is the same again
 abbrev pub StaysOver : Place → Place → DialTells → DialTells → Progress → Type 0
-StaysOver (Unbegun request) is old now progress = ⊤
-StaysOver (Connecting request) is old now progress = ⊤
-StaysOver (Sending sending) is old now progress = ⊤
-StaysOver (Heading heading) is old now progress = ⊤
-StaysOver (Reading reading) is old now progress = ⊤
-StaysOver (Over over) is old now progress = (is ≡ Over over) × (now ≡ old) × (progress ≡ told over.last)
+StaysOver was is old now progress = (last : Last) → IsOverBy last was → (is ≡ was) × (now ≡ old) × (progress ≡ told last)

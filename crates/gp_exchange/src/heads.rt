@@ -55,7 +55,8 @@ impl HeadBytes {
         }
     }
 
-    /// Reads once, and adds what came.
+    /// Reads once, and adds what came. The array of a read stands in this frame alone.
+    #[inline(never)]
     pub(crate) fn receive<D: Dial>(&mut self, dial: &mut D) -> Came
         ensures later { DialLater (D.tells dial.old) (D.tells dial.new) }
         ensures heard { HearsHead (D.tells dial.old) (D.tells dial.new) self.old self.new result }

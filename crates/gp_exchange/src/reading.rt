@@ -122,7 +122,8 @@ impl Reading {
     }
 }
 
-/// Reads once, and adds the content of what came to a part.
+/// Reads once, and adds the content of what came to a part. The array of a read stands in this frame alone.
+#[inline(never)]
 fn read_body<D: Dial>(reader: &mut BodyReader, dial: &mut D, part: &mut Vec<u8>) -> Came
     ensures later { DialLater (D.tells dial.old) (D.tells dial.new) }
     ensures heard { HearsBody (D.tells dial.old) (D.tells dial.new) reader.old reader.new part.old.items part.new.items result }

@@ -3,3 +3,6 @@ pub mod Digits
 pub mod Planning
 pub mod Values
 pub mod Alone
+pub mod Tokens
+pub mod Paths
+pub mod Conditions

@@ -32,7 +32,7 @@ are_visible : (cs : List ℕ) → AllDigits 10 cs → AllPass is_uri_byte cs
 are_visible cs h = All-from_recursion (λ b. is_uri_byte b ≡ true) cs (digits_by cs h)
 
 -- nothing is a value of a field
-nothing : IsFieldValue []
+pub nothing : IsFieldValue []
 unfolding trim_ows
 nothing = record { bytes = All-nil (λ b. is_value_byte b ≡ true); trimmed = refl }
 
@@ -44,10 +44,10 @@ number_behind law value stands n low =
 number_stands : HeadLaw → (n : ℕ) → n < 2 ^ 64 → IsFieldValue (decimal n)
 number_stands law n low = number_behind law [] nothing n low
 
-text_stands : HeadLaw → (text : List ℕ) → 0 < length text → list_all is_uri_byte text ≡ true → IsFieldValue text
+pub text_stands : HeadLaw → (text : List ℕ) → 0 < length text → list_all is_uri_byte text ≡ true → IsFieldValue text
 text_stands law text some all = law.value [] text nothing some (AllPass-from_list_all is_uri_byte text all)
 
-named_by : (name : List ℕ) → 0 < length name → list_all is_token_byte name ≡ true → lowercase name ≡ name → IsFieldName name
+pub named_by : (name : List ℕ) → 0 < length name → list_all is_token_byte name ≡ true → lowercase name ≡ name → IsFieldName name
 named_by name some all low = record { token = (some, AllPass-from_list_all is_token_byte name all); lowered = low }
 
 host_name : IsFieldName (codes "host")

@@ -1,2 +1,3 @@
 pub mod Forwards
 pub mod Alone
+pub mod Conditions

@@ -5,6 +5,8 @@
 #![tactic(auto)]
 
 mod forwarding;
+mod law;
 mod write;
 
 pub use forwarding::forward;
+pub use law::forward_law;
