@@ -43,7 +43,8 @@ pub fn whole(code: u16, bytes: u64) -> Framing
     }
 }
 
-fn is_bare(method: &[u8], sent: u16) -> bool
+/// Whether the answer to this method, with the code `sent`, has no body: to HEAD, and with 204 and 304.
+pub fn is_bare(method: &[u8], sent: u16) -> bool
     ensures { result ≡ is_bare method.now sent }
 {
     method == b"HEAD".as_slice() || is_bodiless(sent)

@@ -11,6 +11,6 @@ mod head;
 mod refusal;
 
 pub use frame::{frame_law, last_chunk};
-pub use framing::{Framing, passed_framing, streamed, whole};
+pub use framing::{Framing, is_bare, passed_framing, streamed, whole};
 pub use head::answer_head;
 pub use refusal::{Refusal, published_head};
