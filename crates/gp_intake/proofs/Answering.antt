@@ -10,7 +10,7 @@ use Rattle.gp_intake.specs.declared.body.BodyPolled.TheVariants as body
 use Rattle.gp_intake.specs.declared.fault.RequestFault.{RequestFault}
 use Rattle.gp_intake.specs.Bodies.{ReadingView, IsOpen}
 use Rattle.gp_intake.specs.Heads.{IsBegun}
-use Rattle.gp_intake.specs.Requests.{HeadedView, IsHeaded, IsUnderway, IsRefusedBy, IsBodyRefusedBy}
+use Rattle.gp_intake.specs.Requests.{HeadedView, IsHeaded, IsUnderway, IsHeadRefusedBy, IsBodyRefusedBy}
 use Rattle.gp_intake.specs.Polls.{Hears, IsGone, HasReadHead, HasReadBody, HeadSays, BodySays, PollsHead, PollsBody, BeginsBody, RefusesHead, AnswersRefused, AnswersWhole, UsedHead}
 use Rattle.gp_intake.proofs.Hearing.{hears_none, hears_more, rose_from, gone_from}
 use Rattle.gp_intake.proofs.Asking.{headed_more}
@@ -32,7 +32,7 @@ begins_says a c bytes (head.NotReady begun) used h = absurd h
 begins_says a c bytes head.ClientGone used h = absurd h
 begins_says a c bytes head.NoMemory used h = used
 
-refuses_says : (a c : LinkTells) (bytes : List ℕ) (fault : RequestFault) (answer : HeadPolled) → ((method : List ℕ) → method ≡ [] → IsRefusedBy bytes fault method) → RefusesHead fault answer → HeadSays a c bytes answer
+refuses_says : (a c : LinkTells) (bytes : List ℕ) (fault : RequestFault) (answer : HeadPolled) → ((method : List ℕ) → method ≡ [] → IsHeadRefusedBy bytes fault method) → RefusesHead fault answer → HeadSays a c bytes answer
 refuses_says a c bytes fault (head.Head v) rule h = absurd h
 refuses_says a c bytes fault (head.Refused refused) rule h = rw h.0 (rule refused.method h.1)
 refuses_says a c bytes fault (head.NotReady begun) rule h = absurd h
@@ -46,7 +46,7 @@ module _ (begun is : List ℕ) (a b c : LinkTells) (reads : HasReadHead a b begu
   pub begins_head : (answer : HeadPolled) → BeginsBody now answer → PollsHead begun a c answer
   begins_head answer h = polls_head begun is a b c reads more now answer hears e (begins_says a c now answer (used_head is more now open_is e) h)
 
-  pub refuses_head : (fault : RequestFault) (answer : HeadPolled) → ((method : List ℕ) → method ≡ [] → IsRefusedBy now fault method) → RefusesHead fault answer → PollsHead begun a c answer
+  pub refuses_head : (fault : RequestFault) (answer : HeadPolled) → ((method : List ℕ) → method ≡ [] → IsHeadRefusedBy now fault method) → RefusesHead fault answer → PollsHead begun a c answer
   refuses_head fault answer rule h = polls_head begun is a b c reads more now answer hears e (refuses_says a c now fault answer rule h)
 
   pub no_memory_head : PollsHead begun a c head.NoMemory
@@ -79,11 +79,11 @@ module _ (v w : HeadedView) (head_is : w.head ≡ v.head) (path_is : w.path ≡ 
 
     pub gone_body : more ≡ [] → w'.body ≡ w.body → IsGone b c → PollsBody v a c body.ClientGone
     gone_body none same gone = polls_body more body.ClientGone hears
-        (λ received h. ((w', underway none same received h), gone_from a b c reads.hears.later gone))
+        (λ received h. (record { w = w'; underway = underway none same received h; head_is = head_still ∙ head_is; path_is = path_still ∙ path_is }, gone_from a b c reads.hears.later gone))
 
     pub no_memory_body : PollsBody v a c body.NoMemory
     no_memory_body = polls_body more body.NoMemory hears
-        (λ received h. record { v = w; used = received; unused = more; split = refl; underway = record { headed = h; more = going } })
+        (λ received h. record { used = received; unused = more; split = refl; still = record { w = w; underway = record { headed = h; more = going }; head_is = head_is; path_is = path_is } })
 
 module _ (v w : HeadedView) (head_is : w.head ≡ v.head) (path_is : w.path ≡ v.path) (a b : LinkTells) (reads : HasReadBody a b v.body w.body) where
   refused_says : (answer : BodyPolled) → AnswersRefused w answer → (received : List ℕ) → IsHeaded w received → BodySays a b v (received ++ []) answer

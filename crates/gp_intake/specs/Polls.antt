@@ -13,7 +13,7 @@ use Rattle.gp_body.specs.declared.plan.BodyPlan.{BodyPlan}
 use Rattle.gp_intake.specs.declared.fault.RequestFault.{RequestFault}
 use Rattle.gp_intake.specs.Bodies.{ReadingView, HasCome, ComesOn, bytes_left}
 use Rattle.gp_intake.specs.Heads.{IsBegun}
-use Rattle.gp_intake.specs.Requests.{HeadedView, IsHeaded, IsUnderway, IsWhole, IsRefused, IsBodyRefused}
+use Rattle.gp_intake.specs.Requests.{HeadedView, IsHeaded, IsUnderway, IsWhole, IsRefusedHead, IsRefusedBody}
 
 -- these bytes were received, and nothing else of the link has changed but its counts of reads
 pub record Hears (before now : LinkTells) (more : List ℕ) : Type 0 where
@@ -57,18 +57,24 @@ pub record UsedHead (received : List ℕ) : Type 0 where
   pub split : received ≡ used ++ unused
   pub begun : IsBegun used
 
--- a beginning of the bytes was used, in which the body was underway
-pub record UsedBody (received : List ℕ) : Type 0 where
-  pub v : HeadedView
+-- the body behind this head is underway
+pub record IsStillUnderway (v : HeadedView) (received : List ℕ) : Type 0 where
+  pub w : HeadedView
+  pub underway : IsUnderway w received
+  pub head_is : w.head ≡ v.head
+  pub path_is : w.path ≡ v.path
+
+-- a beginning of the bytes was used, in which it was underway
+pub record UsedBody (v : HeadedView) (received : List ℕ) : Type 0 where
   pub used : List ℕ
   pub unused : List ℕ
   pub split : received ≡ used ++ unused
-  pub underway : IsUnderway v used
+  pub still : IsStillUnderway v used
 
 -- what a poll answers whose head had begun, of all bytes received
 abbrev pub HeadSays : LinkTells → LinkTells → List ℕ → HeadPolled → Type 0
 HeadSays before now received (head.Head v) = IsHeaded v received
-HeadSays before now received (head.Refused refused) = IsRefused refused received
+HeadSays before now received (head.Refused refused) = IsRefusedHead refused received
 HeadSays before now received (head.NotReady begun) = (begun ≡ received) × IsBegun received × Rose before.read_waits now.read_waits
 HeadSays before now received head.ClientGone = IsBegun received × IsGone before now
 HeadSays before now received head.NoMemory = UsedHead received
@@ -81,10 +87,10 @@ pub record PollsHead (begun : List ℕ) (before now : LinkTells) (answer : HeadP
 -- what a poll answers behind a head, of all bytes received
 abbrev pub BodySays : LinkTells → LinkTells → HeadedView → List ℕ → BodyPolled → Type 0
 BodySays before now v received (body.Whole whole) = IsWhole whole received × (whole.head ≡ v.head) × (whole.path ≡ v.path)
-BodySays before now v received (body.Refused refused) = IsBodyRefused v refused received
+BodySays before now v received (body.Refused refused) = IsRefusedBody v refused received
 BodySays before now v received (body.NotReady w) = IsUnderway w received × (w.head ≡ v.head) × (w.path ≡ v.path) × Rose before.read_waits now.read_waits
-BodySays before now v received body.ClientGone = ((w : HeadedView) × IsUnderway w received) × IsGone before now
-BodySays before now v received body.NoMemory = UsedBody received
+BodySays before now v received body.ClientGone = IsStillUnderway v received × IsGone before now
+BodySays before now v received body.NoMemory = UsedBody v received
 
 pub record PollsBody (v : HeadedView) (before now : LinkTells) (answer : BodyPolled) : Type 0 where
   pub more : List ℕ
@@ -105,7 +111,7 @@ pub record HasReadBody (before now : LinkTells) (v w : ReadingView) : Type 0 whe
 -- what is answered of bytes that begin with a whole head
 abbrev pub BeginsBody : List ℕ → HeadPolled → Type 0
 BeginsBody received (head.Head v) = IsHeaded v received
-BeginsBody received (head.Refused refused) = IsRefused refused received
+BeginsBody received (head.Refused refused) = IsRefusedHead refused received
 BeginsBody received (head.NotReady begun) = ⊥
 BeginsBody received head.ClientGone = ⊥
 BeginsBody received head.NoMemory = ⊤
@@ -113,7 +119,7 @@ BeginsBody received head.NoMemory = ⊤
 -- what is answered of a body that is refused, or has ended
 abbrev pub AnswersRefused : HeadedView → BodyPolled → Type 0
 AnswersRefused v (body.Whole whole) = ⊥
-AnswersRefused v (body.Refused refused) = (received : List ℕ) → IsHeaded v received → IsBodyRefused v refused received
+AnswersRefused v (body.Refused refused) = (received : List ℕ) → IsHeaded v received → IsRefusedBody v refused received
 AnswersRefused v (body.NotReady w) = ⊥
 AnswersRefused v body.ClientGone = ⊥
 AnswersRefused v body.NoMemory = ⊥

@@ -73,18 +73,18 @@ request_fault (fed.Chunk place) = Chunk place
 request_fault (fed.TooLong told) = TooLong
 request_fault (fed.Cut n) = TooLong
 
--- the bytes are refused so, and the method is that of the head, where one was read
-abbrev pub IsRefusedBy : List ℕ → RequestFault → List ℕ → Type 0
-IsRefusedBy received HeadTooLarge method = (IsRead IsRequestText received TooMany ⊎ IsRead IsRequestText received HeadTooLong) × (method ≡ [])
-IsRefusedBy received Head method = IsRead IsRequestText received Bad × (method ≡ [])
-IsRefusedBy received Target method = HasRefusedHead received (record { fault = Target; method = method })
-IsRefusedBy received Host method = HasRefusedHead received (record { fault = Host; method = method })
-IsRefusedBy received (Plan fault) method = HasRefusedHead received (record { fault = Plan fault; method = method })
-IsRefusedBy received (Chunk place) method = (head : Request) × (path : List ℕ) × HasRefusedBody head path received (fed.Chunk place) method
-IsRefusedBy received TooLong method = (head : Request) × (path : List ℕ) × HasRefusedBody head path received (fed.TooLong MAX_BODY) method
+-- the bytes are refused so by their head, and the method is that of the head, where one was read
+abbrev pub IsHeadRefusedBy : List ℕ → RequestFault → List ℕ → Type 0
+IsHeadRefusedBy received HeadTooLarge method = (IsRead IsRequestText received TooMany ⊎ IsRead IsRequestText received HeadTooLong) × (method ≡ [])
+IsHeadRefusedBy received Head method = IsRead IsRequestText received Bad × (method ≡ [])
+IsHeadRefusedBy received Target method = HasRefusedHead received (record { fault = Target; method = method })
+IsHeadRefusedBy received Host method = HasRefusedHead received (record { fault = Host; method = method })
+IsHeadRefusedBy received (Plan fault) method = HasRefusedHead received (record { fault = Plan fault; method = method })
+IsHeadRefusedBy received (Chunk place) method = ⊥
+IsHeadRefusedBy received TooLong method = ⊥
 
-abbrev pub IsRefused : Refused → List ℕ → Type 0
-IsRefused refused received = IsRefusedBy received refused.fault refused.method
+abbrev pub IsRefusedHead : Refused → List ℕ → Type 0
+IsRefusedHead refused received = IsHeadRefusedBy received refused.fault refused.method
 
 -- the body behind this head is refused so
 abbrev pub IsBodyRefusedBy : Request → List ℕ → List ℕ → RequestFault → List ℕ → Type 0
@@ -96,5 +96,5 @@ IsBodyRefusedBy head path received (Plan fault) method = ⊥
 IsBodyRefusedBy head path received (Chunk place) method = HasRefusedBody head path received (fed.Chunk place) method
 IsBodyRefusedBy head path received TooLong method = HasRefusedBody head path received (fed.TooLong MAX_BODY) method
 
-abbrev pub IsBodyRefused : HeadedView → Refused → List ℕ → Type 0
-IsBodyRefused v refused received = IsBodyRefusedBy v.head v.path received refused.fault refused.method
+abbrev pub IsRefusedBody : HeadedView → Refused → List ℕ → Type 0
+IsRefusedBody v refused received = IsBodyRefusedBy v.head v.path received refused.fault refused.method

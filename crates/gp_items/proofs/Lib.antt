@@ -1,3 +1,4 @@
 pub mod NameLemmas
 pub mod ItemLemmas
 pub mod FitLemmas
+pub mod CountLemmas

@@ -1,0 +1,4 @@
+pub mod Rows
+pub mod Hearing
+pub mod Taking
+pub mod Standing

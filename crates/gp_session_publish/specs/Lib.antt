@@ -1,0 +1,5 @@
+pub mod Routing
+pub mod Views
+pub mod Trace
+pub mod Moves
+pub mod Polls
