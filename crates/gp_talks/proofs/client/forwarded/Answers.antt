@@ -1,4 +1,4 @@
-use Rattle.std.proofs.Common.{◌≡◌, List, ℕ, [], sym, subst, refl, codes, ap}
+use Rattle.std.proofs.Common.{List, ℕ, sym, subst, refl, codes}
 use Rattle.std.proofs.lemmas.List.Elements.{All-nil}
 use Rattle.gp_head.specs.Writable.{IsFieldValue}
 use Rattle.gp_head.specs.Targets.{IsSplit}
