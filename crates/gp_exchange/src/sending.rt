@@ -39,6 +39,7 @@ impl Sending {
                 }
             }
         }
+        drop(self.request);
         Heading::new(alloc).advance(alloc, asked, dial)
     }
 }

@@ -1,3 +1,4 @@
+use crate::client::forwarded;
 use crate::shown::{is_last, show};
 use crate::text::{escaped, unescaped};
 use gp_exchange::Exchange;
@@ -13,7 +14,7 @@ const POLLS: usize = 2_000;
 
 /// One talk: the request, the origin's answer, and what each call on the dialer does in turn.
 ///
-/// Its lines are `request TEXT`, without which it is a short GET; `answer TEXT`, whose texts are joined; `method WORD`, without which it
+/// Its lines are `request TEXT`, without which it is a short GET, or `client TEXT`, the head of a client's request that is forwarded; `answer TEXT`, whose texts are joined; `method WORD`, without which it
 /// is GET; `limit NUMBER`, without which there is none; and `connects TURN`, `reads TURN` and `writes TURN`, with a number of bytes, `wait`
 /// or `fail`, and behind it how often, which is once where it isn't said.
 #[derive(Drop)]
@@ -66,6 +67,7 @@ impl Case {
         let alloc = self.alloc;
         match kind {
             "request" => self.request = unescaped(alloc, rest)?,
+            "client" => self.request = forwarded(alloc, unescaped(alloc, rest)?.as_slice())?,
             "answer" => self
                 .answer
                 .extend_from_slice(unescaped(alloc, rest)?.as_slice())?,

@@ -2,11 +2,12 @@
 //!
 //! Standard input has the cases, and the stored output what each of them must write, which was worked out by hand from the rules of
 //! docs/PROTOCOL.md and the standards. A line `# TITLE` begins a case; `case.rt` has its other lines, and `text.rt` says how texts are
-//! escaped. So a new row is two pieces of text, and there is nothing to prove of it. It stands on `gp_exchange`, and on the dialer in
+//! escaped. So a new row is two pieces of text, and there is nothing to prove of it but that a client's request can be forwarded. It stands on `gp_exchange`, and on the dialer in
 //! memory of `gp_outside`.
 #![tactic(auto)]
 
 mod case;
+mod client;
 mod shown;
 mod text;
 
