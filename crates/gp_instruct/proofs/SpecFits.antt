@@ -122,6 +122,6 @@ built_held (Some Response) instruct body now again = refl
 pub spec_law_holds : SpecLaw
 spec_law_holds = λ instruct opening now again held counted short e.
     let within : fits_spec held ≡ true = subst (λ (o : Option HoldSpec). IfSome o (λ (h : HoldSpec). fits_spec h ≡ true)) e
-        (spec_fits instruct counted.asked opening now again counted.subs counted.count (le-leb (length opening) 262144 short)) in
+    (spec_fits instruct counted.asked opening now again counted.subs counted.count (le-leb (length opening) 262144 short)) in
     let built : is_built_spec held ≡ true = subst (λ (o : Option HoldSpec). IfSome o (λ (h : HoldSpec). is_built_spec h ≡ true)) e (built_held instruct.mode instruct opening now again) in
     and_from (is_built_spec held) (fits_spec held) built within
