@@ -1,14 +1,32 @@
 -- What the moves over a session's ends do to its rows and to the causes of its waits.
+<<<<<<< HEAD
 use Rattle.std.proofs.Common.{◌≡◌, ℕ, ◌≤◌, List, [], ◌++◌, Option, Some, None, refl, sym, ap, ◌∙◌, subst, arith, append_assoc, append-nil}
+=======
+use Rattle.std.proofs.Common.{◌≡◌, ℕ, ◌+◌, ◌<◌, ◌≤◌, List, [], ◌++◌, Option, Some, None, Result, Ok, Err, refl, sym, ap, ◌∙◌, subst, arith, append_assoc, append-nil, inl, inr, ◌==◌, ◌∷◌, cond, filter}
+use Rattle.std.specs.Prelude.{OnOk, IfErr}
+use Rattle.std.specs.declared.alloc.AllocError.{AllocError}
+use Rattle.std.specs.List.{All}
+use Rattle.std.proofs.lemmas.Bool.{ne_eqb}
+use Rattle.std.proofs.lemmas.List.Elements.{All-head, All-tail, All-nil}
+>>>>>>> d254829d0abb067107c9c9f52dfe8d8887671448
 use mathlib.Core.List.{IsPrefix}
+use Rattle.gp_plain.specs.Others.{IsOfAnother}
+use Rattle.gp_plain.proofs.OthersLaw.{owners_law_holds}
+use Rattle.gp_turn.proofs.Owners.{others_by_number}
+use Rattle.gp_hub.specs.Own.{mine}
 use Rattle.gp_plain.specs.declared.event.Entry.{Entry}
 use Rattle.gp_outside.specs.Counts.{Rose, grown}
 use Rattle.gp_outside.specs.Links.{LinkTells, LinkLater}
 use Rattle.gp_outbox.specs.declared.outbox.Flushed.{Flushed}
-use Rattle.gp_hub.specs.Passes.{HubView}
+use Rattle.gp_hub.specs.Passes.{HubView, who_of}
 use Rattle.gp_intake.specs.Polls.{Hears}
+<<<<<<< HEAD
 use Rattle.gp_session.specs.Wires.{WireView, MovedWire, RequestRow, Sent, Flushes}
 use Rattle.gp_session.specs.Seats.{SeatView, MovedSeat, IsSamePass, Busied}
+=======
+use Rattle.gp_session.specs.Wires.{WireView, new_wire, MovedWire, RequestRow, Sent, BytesRow, at_most, Flushes, Puts}
+use Rattle.gp_session.specs.Seats.{SeatView, new_seat, MovedSeat, IsSamePass, IsFresh, IsApart, SeatRow, HasNoHolds, Busied}
+>>>>>>> d254829d0abb067107c9c9f52dfe8d8887671448
 use Rattle.gp_session.specs.Causes.{ReadWaited, WriteWaited}
 use Rattle.gp_session.proofs.Publishing.{same_again}
 
@@ -120,3 +138,30 @@ moved_heard v w more start hears = record { start = start; later = hears.later }
 
 pub moved_put : (v w : WireView) → w.start ≡ v.start → w.link ≡ v.link → MovedWire v w
 moved_put v w start link = record { start = start; later = subst (λ (t : LinkTells). LinkLater v.link t) (sym link) (later_same v.link) }
+
+-- a session that begins
+
+pub request_none : (link : LinkTells) (P : List ℕ → Type 0) → P [] → RequestRow (new_wire link) P
+request_none link P p = record { received = []; since = grown_none link.received; asks = p }
+
+pub sent_none : (link : LinkTells) → Sent (new_wire link) []
+sent_none link = record { sent = []; since = grown_none link.sent; whole = refl }
+
+none_own : (who : ℕ) (entries : List Entry) → All (IsOfAnother who) entries → filter (λ (e : Entry). e.who == who) entries ≡ []
+none_own who [] all = refl
+none_own who (e ∷ es) all =
+    ap (λ b. cond b (e ∷ filter (λ (e : Entry). e.who == who) es) (filter (λ (e : Entry). e.who == who) es)) (ne_eqb e.who who (All-head (IsOfAnother who) e es all))
+    ∙ none_own who es (All-tail (IsOfAnother who) e es all)
+
+module _ (p : HubView) (fresh : IsFresh p) (some : 1 ≤ p.spare) where
+  of_others : All (IsOfAnother p.number) p.seen
+  of_others = others_by_number who_of (record p { past = [] }) p.seen some fresh
+
+  pub mine_none : mine p ≡ []
+  mine_none = none_own p.number p.seen of_others
+
+  pub holds_none : HasNoHolds (new_seat p)
+  holds_none = owners_law_holds [] p.seen p.number of_others
+
+pub row_none : (p : HubView) → SeatRow (new_seat p)
+row_none p = record { same = same_pass_same p; since = record { more = []; is = sym (append-nil p.seen); apart = All-nil (IsApart p) }; looks = omega arith }

@@ -2,3 +2,4 @@ pub mod Rows
 pub mod Hearing
 pub mod Taking
 pub mod Standing
+pub mod Turning
