@@ -6,10 +6,14 @@ use std::alloc::{AllocError, Global};
 
 /// Whether an exchange is over with this answer.
 pub fn is_last(progress: &Progress) -> bool {
-    matches!(
-        progress,
-        Progress::End | Progress::Fault(_) | Progress::NoMemory
-    )
+    match progress {
+        Progress::End => true,
+        Progress::Fault(_) => true,
+        Progress::NoMemory => true,
+        Progress::Head(_) => false,
+        Progress::Part(_) => false,
+        Progress::NotReady => false,
+    }
 }
 
 /// The code, the reason and the fields.
