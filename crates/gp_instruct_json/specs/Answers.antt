@@ -1,20 +1,17 @@
 -- What an origin's answer asks for: by its body, where that is an instruction, or by its fields.
-use Rattle.std.specs.Prelude.{◌≡◌, ℕ, Bool, true, false, List, Option, Some, None}
+use Rattle.std.specs.Prelude.{◌≡◌, ℕ, Bool, true, false, List, Option, Some, None, ⊤}
 use Rattle.gp_plain.specs.declared.http.Response.{Response}
 use Rattle.gp_instruct.specs.declared.instruct.Instruct.{Instruct}
 use Rattle.gp_instruct.specs.declared.fault.InstructFault.{InstructFault}
 use Rattle.gp_instruct.specs.declared.fault.InstructFault.TheVariants.{Mode, Channel, NoChannel, TooMany, Reliable, Timeout, Status, Link, NoMemory as InstructNoMemory}
 use Rattle.gp_instruct.specs.Heads.{IsInstruct, IsInstructFault}
+use Rattle.gp_instruct_json.specs.declared.answer.Answer.{Answer}
+use Rattle.gp_instruct_json.specs.declared.answer.AnswerFault.{AnswerFault}
+use Rattle.gp_instruct_json.specs.declared.answer.AnswerFault.TheVariants.{Refused, NoMemory as AnswerNoMemory}
 use Rattle.gp_instruct_json.specs.declared.fault.JsonFault.{JsonFault}
 use Rattle.gp_instruct_json.specs.declared.fault.JsonFault.TheVariants.{NotJson, Member, Base64, Instruct as Asks, NoMemory}
 use Rattle.gp_instruct_json.specs.Kinds.{has_type}
 use Rattle.gp_instruct_json.specs.Bodies.{IsBody, IsJsonFault}
-
--- an instruction or none, and the response with its body that the client gets
-pub record Answer : Type 0 where
-  pub instruct : Option Instruct
-  pub head : Response
-  pub body : List ℕ
 
 -- the body gives the instruction and the response
 abbrev pub IsBodyAnswer : Response → List ℕ → Option Instruct → Response → List ℕ → Type 0
@@ -62,3 +59,11 @@ IsRefusedBy false head body = (fault : InstructFault) × IsHeadRefusal head faul
 -- what a head with its body asks for is refused
 abbrev pub IsAnswerRefused : Response → List ℕ → Type 0
 IsAnswerRefused head body = IsRefusedBy (has_type head.fields) head body
+
+-- why an answer isn't read; want of memory is free
+abbrev pub IsFaultBy : Bool → Response → List ℕ → AnswerFault → Type 0
+IsFaultBy typed head body Refused = IsRefusedBy typed head body
+IsFaultBy typed head body AnswerNoMemory = ⊤
+
+abbrev pub IsAnswerFault : Response → List ℕ → AnswerFault → Type 0
+IsAnswerFault head body fault = IsFaultBy (has_type head.fields) head body fault

@@ -5,7 +5,8 @@ use Rattle.gp_instruct.specs.Page.{Page, PageFault, Code, Instruct, Channel, Too
 use Rattle.gp_instruct.specs.declared.fault.InstructFault.TheVariants.{Link}
 use Rattle.gp_instruct.specs.Heads.{IsLinksFault}
 use Rattle.gp_instruct_json.specs.Kinds.{has_type}
-use Rattle.gp_instruct_json.specs.Answers.{Answer, IsAnswer, IsAnswerRefused}
+use Rattle.gp_instruct_json.specs.declared.answer.Answer.{Answer}
+use Rattle.gp_instruct_json.specs.Answers.{IsAnswer, IsAnswerRefused}
 
 -- the greatest body that is read as an instruction
 abbrev pub max_body : ℕ

@@ -7,12 +7,14 @@
 //! an instruction) and gp_json (the forms of members).
 #![tactic(auto)]
 
+mod answer;
 mod body;
 mod fault;
 mod hold;
 mod kind;
 mod members;
 
+pub use answer::{Answer, AnswerFault, read_answer};
 pub use body::read_body;
 pub use fault::JsonFault;
 pub use kind::is_instruct;
