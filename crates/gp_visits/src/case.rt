@@ -1,0 +1,97 @@
+use crate::shown::{show_taken, show_visit};
+use crate::text::unescaped;
+use crate::visit::{attach_news, enter, take};
+use gp_hub::Hub;
+use gp_outside::{MemLink, Turn, Turns};
+use gp_plain::Body;
+use std::alloc::{AllocError, Global};
+
+/// The room of each link, in bytes.
+const ROOM: usize = 10_000;
+
+/// One case: what the client sends, and what each call on its link does in turn.
+///
+/// Its lines are `| TEXT`, more of the input; `reads N TURN` and `writes N TURN`, so many turns, each a number of bytes, `wait` or `fail`;
+/// `hold`, for a reliable hold on `news` at `a` that another pass attaches before, and takes from behind each visit; and `again`, for
+/// another visit with the same input.
+#[derive(Drop)]
+pub struct Case {
+    alloc: Global,
+    input: Vec<u8>,
+    reads: Vec<Turn>,
+    writes: Vec<Turn>,
+    hold: bool,
+    visits: usize,
+}
+
+/// Adds turns of one kind, as `N TURN` says.
+fn push_turns(turns: &mut Vec<Turn>, text: &str) -> Result<(), AllocError> {
+    let (count, word) = text.split_once(' ').unwrap_or(("1", text));
+    let turn = match word {
+        "wait" => Turn::Wait,
+        "fail" => Turn::Fail,
+        bytes => Turn::Bytes(bytes.parse::<u32>().unwrap_or(0)),
+    };
+    for _turn in 0..count.parse::<usize>().unwrap_or(0) {
+        turns.push(turn)?;
+    }
+    Ok(())
+}
+
+impl Case {
+    /// A visit of a client that sends nothing, over a link that is always ready.
+    pub fn new(alloc: Global) -> Case {
+        Case {
+            alloc,
+            input: Vec::new(alloc),
+            reads: Vec::new(alloc),
+            writes: Vec::new(alloc),
+            hold: false,
+            visits: 1,
+        }
+    }
+
+    /// Reads one line of the case. It says whether it is one.
+    pub fn add(&mut self, line: &str) -> Result<bool, AllocError> {
+        let (kind, rest) = line.split_once(' ').unwrap_or((line, ""));
+        match kind {
+            "|" => self
+                .input
+                .extend_from_slice(unescaped(self.alloc, rest)?.as_slice())?,
+            "reads" => push_turns(&mut self.reads, rest)?,
+            "writes" => push_turns(&mut self.writes, rest)?,
+            "hold" => self.hold = true,
+            "again" => self.visits = self.visits.saturating_add(1),
+            _ => return Ok(false),
+        }
+        Ok(true)
+    }
+
+    fn link(&self) -> Result<MemLink, AllocError> {
+        let input = Body::new(self.alloc, self.input.as_slice())?;
+        let reads = Turns::from_vec(Vec::from_slice(self.alloc, self.reads.as_slice())?);
+        let writes = Turns::from_vec(Vec::from_slice(self.alloc, self.writes.as_slice())?);
+        MemLink::new(self.alloc, input, ROOM, reads, writes)
+    }
+
+    /// What each visit gives, and what the hold takes behind it.
+    pub fn play(self) -> Result<String, AllocError> {
+        let alloc = self.alloc;
+        let mut text = String::new(alloc);
+        let (hub, mut first) = Hub::new(alloc)?;
+        let hold = if self.hold {
+            attach_news(alloc, &hub, &mut first)?
+        } else {
+            None
+        };
+        for _visit in 0..self.visits {
+            let visit = enter(alloc, &hub, &mut first, self.link()?)?;
+            show_visit(alloc, &mut text, visit.as_ref())?;
+            if let Some(number) = hold {
+                let taken = take(&hub, &mut first, number);
+                show_taken(alloc, &mut text, taken.as_ref())?;
+            }
+        }
+        Ok(text)
+    }
+}

@@ -1,0 +1,93 @@
+ghost use Rattle.std.specs.Prelude.{◌≡◌, true, IfSome};
+ghost use Rattle.gp_plain.specs.Fit.{fits};
+ghost use Rattle.gp_session.specs.Seats.{IsFresh};
+
+use gp_hub::{Hub, HubPass, Outcome, Polled, Session};
+use gp_outside::MemLink;
+use gp_plain::{Body, Event, HoldSpec, ItemId, Name, Reply, Taken};
+use gp_session_publish::PublishSession;
+use std::alloc::{AllocError, Global};
+
+/// A session is polled at most so often.
+const POLLS: usize = 100_000;
+
+/// A visit that ended: its outcome, and its link.
+#[derive(Drop)]
+pub struct Visit {
+    pub outcome: Outcome,
+    pub link: MemLink,
+}
+
+/// Polls a session to its end.
+fn stay(alloc: Global, hub: &Hub, pass: HubPass, link: MemLink) -> Option<Visit>
+    requires turn { pass.turn ≡ hub.now }
+    requires fresh { IsFresh pass }
+{
+    let mut session = PublishSession::new(alloc, hub, pass, link);
+    for _poll in 0..POLLS {
+        match session.poll() {
+            Polled::Ready(outcome) => {
+                let link = session.parts()?;
+                return Some(Visit { outcome, link });
+            }
+            Polled::Pending => {}
+        }
+    }
+    None
+}
+
+/// A visit with a pass of its own.
+pub fn enter(
+    alloc: Global,
+    hub: &Hub,
+    first: &mut HubPass,
+    link: MemLink,
+) -> Result<Option<Visit>, AllocError>
+    requires { first.old.turn ≡ hub.now }
+    ensures { first.new.turn ≡ first.old.turn }
+{
+    if first.spare() <= 1 {
+        return Ok(None);
+    }
+    let pass = hub.split(first, 1)?;
+    Ok(stay(alloc, hub, pass, link))
+}
+
+/// A reliable hold on `news` at `a`, without an opening and without a link.
+fn news(alloc: Global) -> Option<Event>
+    ensures { IfSome result (λ event. fits event ≡ true) }
+{
+    Some(Event::Attach {
+        spec: HoldSpec::Stream {
+            opening: Body::empty(alloc),
+            channel: Name::new(alloc, b"news").ok()?,
+            prev: ItemId::new(alloc, b"a").ok()?,
+            link: false,
+        },
+    })
+}
+
+/// Attaches that hold, and answers its number.
+pub fn attach_news(alloc: Global, hub: &Hub, first: &mut HubPass) -> Result<Option<u64>, AllocError>
+    requires { first.old.turn ≡ hub.now }
+    ensures { first.new.turn ≡ first.old.turn }
+{
+    let Some(event) = news(alloc) else {
+        return Err(AllocError);
+    };
+    match hub.call(first, event) {
+        Ok(Reply::Attached(number)) => Ok(Some(number)),
+        _ => Ok(None),
+    }
+}
+
+/// What a Take of a hold gives.
+pub fn take(hub: &Hub, first: &mut HubPass, hold: u64) -> Option<Taken>
+    requires { first.old.turn ≡ hub.now }
+    ensures { first.new.turn ≡ first.old.turn }
+{
+    match hub.call(first, Event::Take { hold, now: 0 }) {
+        Ok(Reply::Taken(taken)) => Some(taken),
+        _ => None,
+    }
+}
