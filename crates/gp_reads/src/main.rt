@@ -2,7 +2,7 @@
 //! each reader answers.
 //!
 //! Each line of standard input is a kind, its arguments, and a text; the stored output repeats the line and has the
-//! answer behind `=`, worked out by hand from the rules of docs/PROTOCOL.md and the standards. `text.rt` says how texts are escaped. So a
+//! answer behind `=`, worked out by hand from the rules of docs/PROTOCOL.md and the standards. `gp_escapes` says how texts are escaped. So a
 //! new row is two lines, and there is nothing to prove of it. It stands on the readers alone.
 #![tactic(auto)]
 
@@ -14,12 +14,11 @@ mod heads;
 mod items;
 mod json;
 mod routes;
-mod text;
 mod tokens;
 
+use gp_escapes::{escaped, unescaped};
 use std::alloc::{AllocError, Global};
 use std::io;
-use text::{escaped, unescaped};
 
 /// The first word of a line, and what stands behind its space.
 fn cut(line: &str) -> (&str, &str) {

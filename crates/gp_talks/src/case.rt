@@ -1,6 +1,6 @@
 use crate::client::forwarded;
 use crate::shown::{is_last, show};
-use crate::text::{escaped, unescaped};
+use gp_escapes::{escaped, unescaped};
 use gp_exchange::Exchange;
 use gp_outside::{Answers, MemDial, Turn, Turns};
 use gp_plain::{Address, Body};

@@ -1,5 +1,5 @@
-use crate::text::escaped;
 use gp_body::{BodyFault, FedFault};
+use gp_escapes::escaped;
 use gp_exchange::{ExchangeFault, Progress};
 use gp_plain::Response;
 use std::alloc::{AllocError, Global};

@@ -1,6 +1,6 @@
 use crate::shown::{show_taken, show_visit};
-use crate::text::unescaped;
 use crate::visit::{attach_news, enter, take};
+use gp_escapes::unescaped;
 use gp_hub::Hub;
 use gp_outside::{MemLink, Turn, Turns};
 use gp_plain::Body;

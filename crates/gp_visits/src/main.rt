@@ -1,14 +1,13 @@
 //! The rows that whole visits of publishers are tested by: what a client sends over a link in memory, and what a session answers.
 //!
 //! Standard input has the cases, and the stored output what each of them must write, which was worked out by hand from the rules of
-//! docs/PROTOCOL.md. A line `# TITLE` begins a case, and `case.rt` has its other lines. `text.rt` says how texts are escaped. So a new row
+//! docs/PROTOCOL.md. A line `# TITLE` begins a case, and `case.rt` has its other lines. `gp_escapes` says how texts are escaped. So a new row
 //! is two pieces of text, and there is nothing to prove of it. It stands on `gp_session_publish`, on the hub, and on the links in memory of
 //! `gp_outside`.
 #![tactic(auto)]
 
 mod case;
 mod shown;
-mod text;
 mod visit;
 
 use case::Case;

@@ -1,5 +1,5 @@
-use crate::text::escaped;
 use crate::visit::Visit;
+use gp_escapes::escaped;
 use gp_plain::{Piece, Taken};
 use std::alloc::{AllocError, Global};
 
