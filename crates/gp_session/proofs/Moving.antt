@@ -1,7 +1,5 @@
 -- What the moves over a session's ends do to its rows and to the causes of its waits.
-use Rattle.std.proofs.Common.{◌≡◌, ℕ, ◌+◌, ◌<◌, ◌≤◌, List, [], ◌++◌, Option, Some, None, Result, Ok, Err, refl, sym, ap, ◌∙◌, subst, arith, append_assoc, append-nil, inl, inr, ◌==◌, ◌∷◌, cond, filter}
-use Rattle.std.specs.Prelude.{OnOk, IfErr}
-use Rattle.std.specs.declared.alloc.AllocError.{AllocError}
+use Rattle.std.proofs.Common.{◌≡◌, ℕ, ◌≤◌, List, [], ◌++◌, Option, Some, None, refl, sym, ap, ◌∙◌, subst, arith, append_assoc, append-nil, ◌==◌, ◌∷◌, cond, filter}
 use Rattle.std.specs.List.{All}
 use Rattle.std.proofs.lemmas.Bool.{ne_eqb}
 use Rattle.std.proofs.lemmas.List.Elements.{All-head, All-tail, All-nil}
@@ -13,11 +11,10 @@ use Rattle.gp_hub.specs.Own.{mine}
 use Rattle.gp_plain.specs.declared.event.Entry.{Entry}
 use Rattle.gp_outside.specs.Counts.{Rose, grown}
 use Rattle.gp_outside.specs.Links.{LinkTells, LinkLater}
-use Rattle.gp_outbox.specs.Flush.{Passed}
 use Rattle.gp_outbox.specs.declared.outbox.Flushed.{Flushed}
 use Rattle.gp_hub.specs.Passes.{HubView, who_of}
 use Rattle.gp_intake.specs.Polls.{Hears}
-use Rattle.gp_session.specs.Wires.{WireView, new_wire, MovedWire, RequestRow, Sent, BytesRow, at_most, Flushes, Puts}
+use Rattle.gp_session.specs.Wires.{WireView, new_wire, MovedWire, RequestRow, Sent, Flushes}
 use Rattle.gp_session.specs.Seats.{SeatView, new_seat, MovedSeat, IsSamePass, IsFresh, IsApart, SeatRow, HasNoHolds, Busied}
 use Rattle.gp_session.specs.Causes.{ReadWaited, WriteWaited}
 use Rattle.gp_session.proofs.Publishing.{same_again}
