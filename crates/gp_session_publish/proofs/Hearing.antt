@@ -1,5 +1,5 @@
 -- What reading a request does to the rows of a session.
-use Rattle.std.proofs.Common.{◌≡◌, ◌≢◌, ℕ, ◌+◌, ◌<◌, ◌≤◌, Bool, true, false, not, cond, List, [], ◌∷◌, ◌++◌, length, Option, Some, None, refl, sym, ap, ◌∙◌, subst, arith, append_assoc, append-nil, inl, inr, ◌⊎◌}
+use Rattle.std.proofs.Common.{◌≡◌, ℕ, Bool, true, false, not, cond, List, [], ◌∷◌, ◌++◌, length, Some, None, refl, sym, ap, ◌∙◌, subst, inl, inr, ◌⊎◌}
 use Rattle.gp_plain.specs.declared.http.Request.{Request}
 use Rattle.gp_outside.specs.Counts.{Rose}
 use Rattle.gp_outside.specs.Links.{LinkTells}
@@ -10,24 +10,23 @@ use Rattle.gp_intake.specs.declared.fault.RequestFault.{RequestFault}
 use Rattle.gp_intake.specs.declared.fault.RequestFault.TheVariants.{HeadTooLarge, Head, Target, Host, Plan, Chunk, TooLong}
 use Rattle.gp_intake.specs.declared.body.Whole.{Whole}
 use Rattle.gp_intake.specs.Heads.{IsBegun}
-use Rattle.gp_intake.specs.Bodies.{IsOpen}
 use Rattle.gp_intake.specs.Requests.{HeadedView, IsHeaded, IsUnderway, IsWhole, IsHeadRefusedBy, IsBodyRefusedBy}
 use Rattle.gp_intake.specs.Polls.{Hears, IsGone, IsStillUnderway, UsedHead, UsedBody}
-use Rattle.gp_session.specs.Wires.{WireView, RequestRow, BytesRow, exactly, at_most}
+use Rattle.gp_session.specs.Wires.{WireView, RequestRow, BytesRow, exactly}
 use Rattle.gp_session.proofs.Moving.{rose_since, request_more, request_same, sent_same, moved_heard, moved_wire_same, moved_seat_same}
 use Rattle.gp_session_publish.specs.declared.cause.Cause.{Cause}
 use Rattle.gp_session_publish.specs.declared.cause.Cause.TheVariants as cause
 use Rattle.gp_session_publish.specs.declared.stage.Stage.{Stage}
-use Rattle.gp_session_publish.specs.declared.stage.Stage.TheVariants.{ReadingHead, ReadingBody, Publishing, Answering, Refusing}
+use Rattle.gp_session_publish.specs.declared.stage.Stage.TheVariants.{ReadingHead, ReadingBody}
 use Rattle.gp_session_publish.specs.declared.stage.Ended.{Ended}
-use Rattle.gp_session_publish.specs.declared.stage.Next.TheVariants.{Go, Wait, End}
+use Rattle.gp_session_publish.specs.declared.stage.Next.TheVariants.{Wait, End}
 use Rattle.gp_session_publish.specs.declared.reading_head.ReadingHead.{ReadingHead as HeadStage}
 use Rattle.gp_session_publish.specs.declared.reading_body.ReadingBody.{ReadingBody as BodyStage}
-use Rattle.gp_session_publish.specs.Routing.{is_path, is_post, IsRouted, cause_of, IsPublish, IsUnserved, IsRefusedFor}
+use Rattle.gp_session_publish.specs.Routing.{is_path, is_post, IsRouted, cause_of, IsPublish, IsRefusedFor}
 use Rattle.gp_session_publish.specs.Views.{LiveView, Moved}
 use Rattle.gp_session_publish.specs.Trace.{Asks, Makes, text_of, Stays, Told}
-use Rattle.gp_session_publish.specs.Moves.{IsReading, why_at, Causes, waits, Used, Finishes, Leads, IsUnanswered, IsHeadedAt, IsWholeAt, MayRefuse}
-use Rattle.gp_session_publish.proofs.Rows.{with_wire, moved_over, stays_over, moved_again}
+use Rattle.gp_session_publish.specs.Moves.{IsReading, why_at, waits, Used, Leads, IsUnanswered}
+use Rattle.gp_session_publish.proofs.Rows.{with_wire, moved_over, stays_over}
 
 pub moved_same : (v : LiveView) → Moved v v
 moved_same v = record { wire = moved_wire_same v.wire; seat = moved_seat_same v.seat }

@@ -1,36 +1,30 @@
 -- What each kind of move does to the rows of a session.
-use Rattle.std.proofs.Common.{◌≡◌, ◌≢◌, ℕ, suc, ◌+◌, ◌<◌, ◌≤◌, List, [], ◌∷◌, ◌++◌, length, map, Option, Some, None, Result, Ok, Err, refl, sym, ap, ◌∙◌, subst, arith, append_assoc, append-nil, inl, inr, ◌⊎◌}
-use Rattle.std.specs.List.{All}
-use Rattle.std.proofs.Math.ListN as lists
-use mathlib.Core.List.{IsPrefix}
+use Rattle.std.proofs.Common.{◌≡◌, ℕ, suc, ◌≤◌, List, [], ◌∷◌, ◌++◌, length, map, refl, sym, ap, ◌∙◌, subst, arith, append-nil, inl, inr}
 use Rattle.gp_plain.specs.declared.event.Entry.{Entry}
 use Rattle.gp_plain.specs.declared.item.Item.{Item}
-use Rattle.gp_outside.specs.Counts.{Rose}
-use Rattle.gp_outside.specs.Links.{LinkTells, LinkLater}
+use Rattle.gp_outside.specs.Links.{LinkTells}
 use Rattle.gp_outbox.specs.declared.outbox.Flushed.{Flushed}
 use Rattle.gp_outbox.specs.declared.outbox.Flushed.TheVariants as flushed
 use Rattle.gp_hub.specs.declared.outcome.SessionEnd.{SessionEnd}
 use Rattle.gp_hub.specs.declared.outcome.SessionEnd.TheVariants as end
-use Rattle.gp_hub.specs.declared.outcome.Why.TheVariants as why
 use Rattle.gp_hub.specs.Own.{mine}
 use Rattle.gp_head.specs.Texts.{response_text}
 use Rattle.gp_answer.specs.declared.refusal.Refusal.{Refusal}
-use Rattle.gp_answer.specs.Refusals.{code_of, refusal_head, refusal_body}
-use Rattle.gp_session.specs.Wires.{WireView, MovedWire, RequestRow, Sent, BytesRow, exactly, at_most, Flushes, Puts}
-use Rattle.gp_session.specs.Seats.{SeatView, MovedSeat, publish_of}
+use Rattle.gp_answer.specs.Refusals.{refusal_head, refusal_body}
+use Rattle.gp_session.specs.Wires.{WireView, MovedWire, RequestRow, Sent, BytesRow, Flushes}
+use Rattle.gp_session.specs.Seats.{publish_of}
 use Rattle.gp_session.proofs.Moving.{rose_since, later_since, request_same, sent_flushed, sent_put, sent_same, moved_flushed, moved_put, moved_seat_same, moved_seat_again, moved_wire_again, busied_from, read_waited_from, write_waited_from}
 use Rattle.gp_session_publish.specs.declared.stage.Stage.{Stage}
-use Rattle.gp_session_publish.specs.declared.stage.Stage.TheVariants.{ReadingHead, ReadingBody, Publishing, Answering, Refusing}
+use Rattle.gp_session_publish.specs.declared.stage.Stage.TheVariants.{Refusing}
 use Rattle.gp_session_publish.specs.declared.stage.Ended.{Ended}
 use Rattle.gp_session_publish.specs.declared.stage.Next.{Next}
 use Rattle.gp_session_publish.specs.declared.stage.Next.TheVariants.{Go, Wait, End}
-use Rattle.gp_session_publish.specs.declared.answering.Answering.{Answering as AnsweringStage}
 use Rattle.gp_session_publish.specs.declared.refusing.Refusing.{Refusing as RefusingStage}
 use Rattle.gp_session_publish.specs.declared.cause.Cause.{Cause}
 use Rattle.gp_session_publish.specs.Routing.{IsRefusedFor, refusal_of, refusal_text, why_of}
 use Rattle.gp_session_publish.specs.Views.{LiveView, Moved}
-use Rattle.gp_session_publish.specs.Trace.{Asks, HasPublished, Makes, text_of, Stays, Told}
-use Rattle.gp_session_publish.specs.Moves.{rank, IsReading, HasCode, EndSays, why_at, Causes, Pends, busy, waits, Used, AsksAtEnd, shape_at_end, ServedAtEnd, ToldAtEnd, Finishes, LeadsTo, Leads, IsUnanswered, MayRefuse}
+use Rattle.gp_session_publish.specs.Trace.{Asks, HasPublished, text_of, Stays, Told}
+use Rattle.gp_session_publish.specs.Moves.{IsReading, HasCode, EndSays, why_at, Pends, busy, waits, Used, AsksAtEnd, shape_at_end, ServedAtEnd, ToldAtEnd, LeadsTo, Leads, MayRefuse}
 
 abbrev pub with_wire : LiveView → WireView → LiveView
 with_wire v w = record { wire = w; seat = v.seat }

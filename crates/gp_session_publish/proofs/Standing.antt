@@ -1,29 +1,26 @@
 -- What publishing and the answer do to the rows of a session.
-use Rattle.std.proofs.Common.{◌≡◌, ◌≢◌, ℕ, ◌+◌, ◌<◌, ◌≤◌, ◌^◌, List, [], ◌∷◌, ◌++◌, length, map, Option, Some, None, refl, sym, ap, ◌∙◌, subst, arith, append_assoc, append-nil, length-append, inl, inr}
-use Rattle.std.specs.Prelude.{option_to_list}
+use Rattle.std.proofs.Common.{◌≡◌, ℕ, List, [], ◌++◌, length, map, refl, sym, ap, ◌∙◌, subst, arith, append_assoc, length-append}
 use Rattle.std.specs.List.{All}
 use Rattle.gp_plain.specs.declared.event.Entry.{Entry}
 use Rattle.gp_plain.specs.declared.item.Item.{Item}
 use Rattle.gp_outside.specs.Links.{LinkTells}
 use Rattle.gp_head.specs.Texts.{response_text}
-use Rattle.gp_hub.specs.declared.outcome.SessionEnd.{SessionEnd}
 use Rattle.gp_hub.specs.declared.outcome.SessionEnd.TheVariants as end
 use Rattle.gp_hub.specs.declared.outcome.Why.TheVariants as why
 use Rattle.gp_hub.specs.Own.{mine}
 use Rattle.gp_answer.specs.Refusals.{published_head, published_text}
-use Rattle.gp_session.specs.Wires.{WireView, Sent}
+use Rattle.gp_session.specs.Wires.{WireView}
 use Rattle.gp_session.specs.Seats.{SeatView, MovedSeat, IsServed, IsWorn, Busied, publish_of}
 use Rattle.gp_session.proofs.Moving.{moved_wire_same, sent_put, sent_same, request_same, moved_put}
 use Rattle.gp_session_publish.specs.declared.stage.Stage.TheVariants.{Publishing, Answering}
 use Rattle.gp_session_publish.specs.declared.stage.Ended.{Ended}
 use Rattle.gp_session_publish.specs.declared.stage.Next.TheVariants.{Go, Wait, End}
-use Rattle.gp_session_publish.specs.declared.publishing.AllPublished.TheVariants as all
 use Rattle.gp_session_publish.specs.declared.publishing.Publishing.{Publishing as PublishingStage}
 use Rattle.gp_session_publish.specs.declared.answering.Answering.{Answering as AnsweringStage}
 use Rattle.gp_session_publish.specs.Routing.{IsPublish, answer_text}
 use Rattle.gp_session_publish.specs.Views.{LiveView, Moved}
-use Rattle.gp_session_publish.specs.Trace.{Asks, Fits, HasPublished, Makes, text_of, Stays, Told}
-use Rattle.gp_session_publish.specs.Moves.{ServedAtEnd, EndSays, why_at, ToldAtEnd, Finishes, Pends, busy, waits, Leads, PublishedSome, PublishesAll}
+use Rattle.gp_session_publish.specs.Trace.{Asks, Fits, HasPublished, Makes, Stays, Told}
+use Rattle.gp_session_publish.specs.Moves.{busy, Leads, PublishedSome}
 use Rattle.gp_session_publish.proofs.Rows.{with_wire, moved_over, stays_over, at_end, published_count}
 use Rattle.gp_session_publish.proofs.Taking.{map-append}
 

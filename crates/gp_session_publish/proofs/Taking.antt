@@ -1,8 +1,7 @@
 -- The items of a publish request, as they are taken one after another.
-use Rattle.std.proofs.Common.{◌≡◌, ℕ, zero, suc, ◌+◌, ◌-◌, ◌<◌, ◌≤◌, ◌^◌, Bool, true, false, cond, List, [], ◌∷◌, ◌++◌, length, map, drop, Option, Some, None, Result, Ok, Err, refl, sym, ap, ◌∙◌, subst, arith, append_assoc, append-nil, inl, inr, lit<, slice_get, ◌==◌, filter, length-append}
-use Rattle.std.specs.Prelude.{nat_lt, option_to_list, option_and_then, codes}
+use Rattle.std.proofs.Common.{◌≡◌, ℕ, ◌+◌, ◌<◌, ◌≤◌, ◌^◌, List, [], ◌∷◌, ◌++◌, length, map, Option, Some, None, refl, sym, ap, ◌∙◌, subst, arith, append_assoc, append-nil, ◌==◌, filter, length-append}
+use Rattle.std.specs.Prelude.{option_to_list}
 use Rattle.std.specs.List.{All}
-use Rattle.std.proofs.lemmas.Bool.{ltb-false}
 use Rattle.gp_plain.specs.declared.event.Entry.{Entry}
 use Rattle.gp_plain.specs.declared.item.Item.{Item}
 use Rattle.gp_items.specs.Items.{AreItemsOf, IsItemsFault}
@@ -17,17 +16,17 @@ use Rattle.gp_plain.specs.Others.{shares}
 use Rattle.gp_session.specs.Seats.{SeatView, MovedSeat, SeatRow, IsServed, IsWorn, Busied, Publishes, publish_of}
 use Rattle.gp_session.proofs.Moving.{moved_seat_same, moved_seat_again, busied_from}
 use Rattle.gp_session_publish.specs.declared.cause.Cause.TheVariants as cause
-use Rattle.gp_session_publish.specs.declared.stage.Stage.TheVariants.{ReadingHead, ReadingBody, Publishing, Answering, Refusing}
+use Rattle.gp_session_publish.specs.declared.stage.Stage.TheVariants.{ReadingHead, Publishing}
 use Rattle.gp_session_publish.specs.declared.stage.Ended.{Ended}
-use Rattle.gp_session_publish.specs.declared.stage.Next.TheVariants.{Go, Wait, End}
+use Rattle.gp_session_publish.specs.declared.stage.Next.TheVariants.{Go, End}
 use Rattle.gp_session_publish.specs.declared.reading_head.ReadingHead.{ReadingHead as HeadStage}
 use Rattle.gp_session_publish.specs.declared.publishing.AllPublished.TheVariants as all
 use Rattle.gp_session_publish.specs.declared.publishing.Reached.TheVariants as reached
 use Rattle.std.proofs.lemmas.List.Elements.{All-tail}
 use Rattle.gp_session_publish.specs.declared.publishing.Publishing.{Publishing as PublishingStage}
 use Rattle.gp_session_publish.specs.Routing.{IsPublish, IsRefusedFor, place_of}
-use Rattle.gp_session_publish.specs.Views.{LiveView, Moved}
-use Rattle.gp_session_publish.specs.Trace.{Asks, Fits, HasPublished, Told}
+use Rattle.gp_session_publish.specs.Views.{LiveView}
+use Rattle.gp_session_publish.specs.Trace.{Asks, Fits, Told}
 use Rattle.gp_session_publish.specs.Moves.{PublishedSome, IsPublishing, PublishesAll, PublishesLeft, Used, Leads, IsUnanswered, IsWholeAt}
 use Rattle.gp_session_publish.proofs.Hearing.{unanswered_as, moved_same, no_memory_end}
 

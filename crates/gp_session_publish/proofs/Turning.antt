@@ -1,5 +1,5 @@
 -- How a session begins, and the moves of a poll.
-use Rattle.std.proofs.Common.{◌≡◌, ℕ, ◌+◌, ◌<◌, ◌≤◌, List, [], ◌++◌, Option, Some, None, option_map, refl, sym, ap, ◌∙◌, subst, arith, ◌⊎◌, inl, inr}
+use Rattle.std.proofs.Common.{◌≡◌, ℕ, ◌≤◌, [], Option, Some, None, option_map, refl, sym, ap, ◌∙◌, subst, ◌⊎◌, inl, inr}
 use Rattle.gp_outside.specs.Links.{LinkTells}
 use Rattle.gp_hub.specs.Passes.{HubView}
 use Rattle.gp_hub.specs.declared.outcome.Outcome.{Outcome}
@@ -9,12 +9,12 @@ use Rattle.gp_session.proofs.Moving.{later_same, request_none, sent_none, mine_n
 use Rattle.gp_session_publish.specs.declared.stage.Stage.{Stage}
 use Rattle.gp_session_publish.specs.declared.stage.Stage.TheVariants.{ReadingHead}
 use Rattle.gp_session_publish.specs.declared.stage.Ended.{Ended}
-use Rattle.gp_session_publish.specs.declared.stage.Next.TheVariants.{Go, Wait, End}
+use Rattle.gp_session_publish.specs.declared.stage.Next.TheVariants.{Wait, End}
 use Rattle.gp_session_publish.specs.declared.reading_head.ReadingHead.{ReadingHead as HeadStage}
 use Rattle.gp_session_publish.specs.Views.{LiveView, Moved}
 use Rattle.gp_session_publish.specs.Trace.{Asks, Told, new_live}
-use Rattle.gp_session_publish.specs.Moves.{rank, Leads, LeadsTo}
-use Rattle.gp_session_publish.specs.Polls.{OpenView, SessionView, MayGive, MayLeave, Leaves, Ends, Waits, PollWaits}
+use Rattle.gp_session_publish.specs.Moves.{Leads}
+use Rattle.gp_session_publish.specs.Polls.{OpenView, SessionView, MayLeave, Leaves, Ends, Waits, PollWaits}
 use Rattle.gp_session_publish.proofs.Rows.{moved_again, pends_from}
 
 pub told_new : (l : LiveView) (link : LinkTells) (pass : HubView) (s : HeadStage) → l ≡ new_live link pass → IsFresh pass → 1 ≤ pass.spare → s.intake ≡ [] → IsBegun s.intake → Told l (ReadingHead s)

@@ -1,6 +1,5 @@
 -- Where a move leads, why a session waits, and how it ends.
 use Rattle.std.specs.Prelude.{◌≡◌, ◌≢◌, ℕ, ◌+◌, ◌<◌, ◌^◌, ◌⊎◌, List, [], ◌∷◌, ◌++◌, length, map, All, Option, None, option_to_list, ⊤}
-use Rattle.gp_plain.specs.declared.event.Entry.{Entry}
 use Rattle.gp_plain.specs.declared.item.Item.{Item}
 use Rattle.gp_plain.specs.Others.{shares}
 use Rattle.gp_outside.specs.Links.{LinkLater}

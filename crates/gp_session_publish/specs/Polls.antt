@@ -1,5 +1,5 @@
 -- What a poll of a session brings.
-use Rattle.std.specs.Prelude.{◌≡◌, ℕ, List, [], Option, Some, None, IfSome}
+use Rattle.std.specs.Prelude.{◌≡◌, [], Option, Some, None, IfSome}
 use Rattle.gp_outside.specs.Links.{LinkTells}
 use Rattle.gp_hub.specs.Passes.{HubView}
 use Rattle.gp_hub.specs.declared.outcome.Outcome.{Outcome}

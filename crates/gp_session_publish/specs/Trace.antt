@@ -10,8 +10,8 @@ use Rattle.gp_hub.specs.Own.{mine}
 use Rattle.gp_items.specs.Items.{AreItemsOf}
 use Rattle.gp_intake.specs.Heads.{IsBegun}
 use Rattle.gp_intake.specs.Requests.{IsHeaded}
-use Rattle.gp_session.specs.Wires.{WireView, RequestRow, BytesRow, exactly, new_wire}
-use Rattle.gp_session.specs.Seats.{SeatView, SeatRow, HasNoHolds, IsServed, publish_of, new_seat}
+use Rattle.gp_session.specs.Wires.{RequestRow, BytesRow, exactly, new_wire}
+use Rattle.gp_session.specs.Seats.{SeatRow, HasNoHolds, IsServed, publish_of, new_seat}
 use Rattle.gp_session_publish.specs.declared.stage.Stage.{Stage}
 use Rattle.gp_session_publish.specs.declared.stage.Stage.TheVariants.{ReadingHead, ReadingBody, Publishing, Answering, Refusing}
 use Rattle.gp_session_publish.specs.Routing.{IsRouted, IsPublish, IsRefusedFor, refusal_text, answer_text}

@@ -1,4 +1,4 @@
-use Rattle.std.proofs.Common.{◌++◌, length}
+use Rattle.std.proofs.Common.{◌++◌}
 use Rattle.std.specs.Prelude.{option_to_list}
 use Rattle.gp_session_publish.proofs.Taking.{begins_all, goes_on_all, busy_all, worn_all, no_memory_all, done_all}
 use Rattle.gp_session_publish.proofs.publishing.publish_all.Goals as goal

@@ -1,6 +1,4 @@
-use Rattle.std.proofs.Common.{◌≡◌, ◌∙◌, sym, refl, arith}
-use Rattle.gp_session_publish.proofs.Rows.{leads_from}
-use Rattle.gp_session_publish.proofs.Hearing.{moved_same}
+use Rattle.std.proofs.Common.{sym, refl}
 use Rattle.gp_session_publish.proofs.Taking.{begins, refused_items, no_memory_items}
 use Rattle.gp_session_publish.proofs.reading_body.read.Goals as goal
 

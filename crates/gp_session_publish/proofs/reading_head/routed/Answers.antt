@@ -1,4 +1,4 @@
-use Rattle.std.proofs.Common.{◌≡◌, ◌∙◌, List, ℕ, sym, subst, arith}
+use Rattle.std.proofs.Common.{sym, subst, arith}
 use Rattle.gp_plain.specs.declared.http.Request.{Request}
 use Rattle.gp_intake.specs.Requests.{IsHeaded}
 use Rattle.gp_session_publish.specs.Routing.{IsRefusedFor}

@@ -1,4 +1,4 @@
-use Rattle.std.proofs.Common.{◌≡◌, refl, []}
+use Rattle.std.proofs.Common.{refl, []}
 use Rattle.gp_hub.specs.Own.{mine}
 use Rattle.gp_session_publish.specs.declared.stage.Stage.{Stage}
 use Rattle.gp_session_publish.specs.declared.stage.Stage.TheVariants as stage

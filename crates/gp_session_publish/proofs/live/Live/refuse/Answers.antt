@@ -1,4 +1,4 @@
-use Rattle.std.proofs.Common.{◌≡◌, ◌++◌, List, ℕ, refl, sym, ap, ◌∙◌, subst}
+use Rattle.std.proofs.Common.{◌++◌, List, ℕ, refl, sym, ap, ◌∙◌, subst}
 use Rattle.gp_session_publish.specs.Views.{LiveView}
 use Rattle.gp_session_publish.specs.Moves.{MayRefuse}
 use Rattle.gp_session_publish.proofs.Rows.{from_live, leads_is, put_text, refused_go, refused_end}

@@ -1,4 +1,4 @@
-use Rattle.std.proofs.Common.{◌≡◌, ◌++◌, ◌∙◌, List, Option, ap, sym}
+use Rattle.std.proofs.Common.{◌++◌, ◌∙◌, Option, ap}
 use Rattle.std.specs.Prelude.{option_to_list}
 use Rattle.gp_plain.specs.declared.item.Item.{Item}
 use Rattle.gp_session_publish.proofs.Taking.{left_busy}

@@ -1,4 +1,4 @@
-use Rattle.std.proofs.Common.{◌≡◌, refl, sym, ◌∙◌, arith}
+use Rattle.std.proofs.Common.{refl, sym, ◌∙◌, arith}
 use Rattle.gp_session_publish.specs.declared.stage.Stage.TheVariants as stage
 use Rattle.gp_session_publish.specs.Views.{LiveView}
 use Rattle.gp_session_publish.proofs.Rows.{from_live, told_live, leads_from}

@@ -1,4 +1,4 @@
-use Rattle.std.proofs.Common.{◌≡◌, ◌++◌, ◌∙◌, List, ℕ, refl, ap}
+use Rattle.std.proofs.Common.{◌++◌, ◌∙◌, List, ℕ, refl, ap}
 use Rattle.gp_session_publish.specs.declared.stage.Stage.TheVariants as stage
 use Rattle.gp_session_publish.specs.Views.{LiveView}
 use Rattle.gp_session_publish.proofs.Rows.{from_live, told_live, leads_is}

@@ -1,5 +1,4 @@
-use Rattle.std.proofs.Common.{◌≡◌, ◌++◌, List, ℕ, refl, arith}
-use Rattle.gp_session_publish.specs.declared.cause.Cause.TheVariants as cause
+use Rattle.std.proofs.Common.{arith}
 use Rattle.gp_session_publish.specs.declared.stage.Stage.TheVariants as stage
 use Rattle.gp_session_publish.specs.Views.{LiveView}
 use Rattle.gp_session_publish.proofs.Rows.{told_live, from_live, leads_from}

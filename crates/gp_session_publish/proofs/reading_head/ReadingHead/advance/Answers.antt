@@ -1,4 +1,4 @@
-use Rattle.std.proofs.Common.{◌≡◌, ◌++◌, List, ℕ, refl, arith}
+use Rattle.std.proofs.Common.{arith}
 use Rattle.gp_intake.specs.Requests.{IsHeaded}
 use Rattle.gp_session_publish.specs.declared.cause.Cause.TheVariants as cause
 use Rattle.gp_session_publish.specs.declared.stage.Stage.TheVariants as stage

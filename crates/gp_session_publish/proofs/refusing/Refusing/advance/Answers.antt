@@ -1,4 +1,4 @@
-use Rattle.std.proofs.Common.{◌≡◌, ◌∙◌, sym, ap, length}
+use Rattle.std.proofs.Common.{◌∙◌, sym, ap, length}
 use Rattle.gp_session_publish.specs.declared.stage.Stage.{Stage}
 use Rattle.gp_session_publish.specs.declared.stage.Stage.TheVariants as stage
 use Rattle.gp_answer.specs.Refusals.{code_of}

@@ -1,4 +1,4 @@
-use Rattle.std.proofs.Common.{◌≡◌, arith}
+use Rattle.std.proofs.Common.{arith}
 use Rattle.gp_session_publish.proofs.Turning.{told_new}
 use Rattle.gp_session_publish.proofs.session.Open.new.Goals as goal
 

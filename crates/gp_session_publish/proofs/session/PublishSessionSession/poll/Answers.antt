@@ -1,4 +1,4 @@
-use Rattle.std.proofs.Common.{◌≡◌, ◌∙◌, sym}
+use Rattle.std.proofs.Common.{sym}
 use Rattle.gp_session_publish.proofs.Turning.{poll_waits}
 use Rattle.gp_session_publish.proofs.session.PublishSessionSession.poll.Goals as goal
 
