@@ -1,6 +1,8 @@
 //! Workers: threads that accept connections and drive their sessions, over one hub.
 #![tactic(auto)]
 
+mod claims;
+mod drawn;
 mod driven;
 mod maker;
 mod report;
