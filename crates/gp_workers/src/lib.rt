@@ -2,11 +2,15 @@
 #![tactic(auto)]
 
 mod claims;
+mod crew;
 mod drawn;
 mod driven;
 mod maker;
+mod poll;
 mod report;
+mod visit;
+mod worker;
 
 pub use driven::Driven;
-pub use maker::{Maker, Over};
+pub use maker::{Finished, Maker, Over};
 pub use report::{SessionReport, SessionReports, WorkerReport};

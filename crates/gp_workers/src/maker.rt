@@ -10,22 +10,26 @@ use std::alloc::AllocError;
 
 /// What a session leaves: its outcome, and its devices.
 #[derive(Drop)]
-pub struct Over<K: Kit> {
+pub struct Finished<L, D, C> {
     /// The outcome.
     pub outcome: Outcome,
     /// The connection of its client.
-    pub link: <K::Listen as Listen>::Link,
+    pub link: L,
     /// Its dialer and its clock, where it had them.
-    pub others: Option<(K::Dial, K::Clock)>,
+    pub others: Option<(D, C)>,
 }
+
+/// What a session over the devices of a kit leaves.
+pub type Over<K> =
+    Finished<<<K as Kit>::Listen as Listen>::Link, <K as Kit>::Dial, <K as Kit>::Clock>;
 
 /// What makes the sessions of a server, for clients and for publishers.
 pub trait Maker {
     type Kit: Kit + Send;
 
-    type Client: Session<Output = Over<Self::Kit>> + Drop;
+    type Client: Session<Output = Over<Self::Kit>> + Drop + Send;
 
-    type Publisher: Session<Output = Over<Self::Kit>> + Drop;
+    type Publisher: Session<Output = Over<Self::Kit>> + Drop + Send;
 
     ghost use Rattle.atomic_table.specs.Seated.{TableId};
     ghost use Rattle.gp_workers.specs.Makers.{IsGiven, IsUnused, Means};
@@ -49,7 +53,7 @@ pub trait Maker {
         requires link { IsUnusedLink (Self.Kit.Listen.Link.tells link) }
         ensures same { TellsTheSame (Self.Kit.parts kit.old) (Self.Kit.parts kit.new) }
         ensures runs { IfOk result (λ session. Self.Client.ended session → ⊥) }
-        ensures gives { IfOk result (λ session. (over : _) → Self.Client.may_give session over → IsGiven (means self.now) claim pass over.outcome over.link over.others) }
+        ensures gives { IfOk result (λ session. (over : _) → Self.Client.may_give session over → IsGiven (means self.now) (turn self.now) claim pass.number over) }
         ensures err { IfErr result (λ e. e.0 ≡ pass) };
 
     /// Makes the session of a publisher. Where memory is wanting it hands the pass back as it was.
@@ -63,6 +67,6 @@ pub trait Maker {
         requires link { IsUnusedLink (Self.Kit.Listen.Link.tells link) }
         ensures same { TellsTheSame (Self.Kit.parts kit.old) (Self.Kit.parts kit.new) }
         ensures runs { IfOk result (λ session. Self.Publisher.ended session → ⊥) }
-        ensures gives { IfOk result (λ session. (claim : ℕ) (over : _) → Self.Publisher.may_give session over → IsGiven (means self.now) claim pass over.outcome over.link over.others) }
+        ensures gives { IfOk result (λ session. (claim : ℕ) (over : _) → Self.Publisher.may_give session over → IsGiven (means self.now) (turn self.now) claim pass.number over) }
         ensures err { IfErr result (λ e. e.0 ≡ pass) };
 }

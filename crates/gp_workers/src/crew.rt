@@ -1,0 +1,14 @@
+//! What all workers share.
+use crate::claims::Claims;
+use gp_hub::Hub;
+
+/// What all workers share.
+pub struct Crew<'a, M> {
+    pub hub: &'a Hub,
+    pub claims: &'a Claims,
+    pub maker: &'a M,
+    /// Claims below this number are served.
+    pub limit: u32,
+    /// How many sessions a worker has at once, at most.
+    pub most: usize,
+}
