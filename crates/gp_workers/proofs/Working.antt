@@ -93,11 +93,11 @@ module _ {S : Type 0} where
       let e : hit x (get_or rs i o).claim ≡ hit x r.claim = ap (hit x) (sym same) in omega arith
 
 module _ {S L D C : Type 0} where
-  pub works_finished : (means : Means L D C) (turn claims : TableId) (limit : ℕ) (start b n : Books L D C) (rs zs : List (Running S)) (i : ℕ) (r d o : Running S) (over : Finished L D C)
+  pub works_finished : (means : Means L D C) (turn : TableId) (limit : ℕ) (start b n : Books L D C) (rs zs : List (Running S)) (i : ℕ) (r d o : Running S) (over : Finished L D C)
       → i < length rs → r.claim ≡ (get_or rs i o).claim → d ≡ r → zs ≡ swap_remove (set rs i r) i d → length zs + 1 ≡ length rs
       → IsGiven means turn r.claim r.number over → HasFinished (record { claim = d.claim; over = over }) b n
-      → Works means claims limit start b rs → Works means claims limit start n zs
-  works_finished means turn claims limit start b n rs zs i r d o over lt same one_is is len given finished w =
+      → Works means limit start b rs → Works means limit start n zs
+  works_finished means turn limit start b n rs zs i r d o over lt same one_is is len given finished w =
       let f : HasFinished (record { claim = r.claim; over = over }) b n = subst (λ (one : Running S). HasFinished (record { claim = one.claim; over = over }) b n) one_is finished in
       let g : Gave L D C = record { claim = r.claim; over = over } in
       let p = w.parted in
@@ -106,7 +106,6 @@ module _ {S L D C : Type 0} where
       let holds : Holds means g = rw given.number given.is in
       let number : n.pass.number ≡ b.pass.number = ap (λ (q : HubView). q.number) f.joined in
       let parts : n.pass.parts ≡ b.pass.parts + over.outcome.pass.parts = ap (λ (q : HubView). q.parts) f.joined in
-      let spare : n.pass.spare ≡ b.pass.spare = ap (λ (q : HubView). q.spare) f.joined in
       let their = given.parts in
       let before = p.parts in
       record {
@@ -118,8 +117,6 @@ module _ {S L D C : Type 0} where
           failed = λ failed. rw (f.clients, f.publishers) (l.failed (sym f.failed ∙ failed));
         };
         claimed = record {
-          table = rw f.claimer cl.table;
-          parts = rw f.claimer cl.parts;
           lost = cl.lost;
           few = cl.few;
           memory = λ some. f.hands.memory (cl.memory some);
@@ -128,7 +125,5 @@ module _ {S L D C : Type 0} where
               let q = removed x rs i r d o lt same in
               let s = sum_by_push (λ (one : SessionReport). hit x one.claim) b.reports (report_of g) in
               rw (f.claimer, f.reports, is) (omega arith);
-          rise = rw f.claimer cl.rise;
-          spare = rw f.claimer (let e = cl.spare in omega arith);
         };
       }

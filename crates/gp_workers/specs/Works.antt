@@ -63,27 +63,27 @@ reported_at x reports = sum_by (λ (r : SessionReport). hit x r.claim) reports
 
 module _ {S L D C : Type 0} where
   -- Each claim below the limit that was taken is that of a session that runs or of a report, but at most one, for which
-  -- memory was wanting. The claims rise, and each took at most one share of the numbers.
-  pub record Claimed (limit : ℕ) (claims : TableId) (start now : Books L D C) (running : List (Running S)) : Type 0 where
-    pub table : now.claimer.table ≡ claims
-    pub parts : now.claimer.parts ≡ one_share
+  -- memory was wanting.
+  pub record Claimed (limit : ℕ) (now : Books L D C) (running : List (Running S)) : Type 0 where
     pub lost : List ℕ
     pub few : length lost ≤ 1
     pub memory : 0 < length lost → now.no_memory ≡ true
     pub each : (x : ℕ) → x < limit → times x now.claimer.taken ≡ running_at x running + reported_at x now.reports + times x lost
-    pub rise : length now.claimer.taken ≤ now.claimer.note
-    pub spare : start.pass.spare ≤ now.pass.spare + numbers * length now.claimer.taken
 
-  -- what the next step of a worker rests on: its pass is of the turn, there is room for the report of each session that
-  -- runs, and each gives only what its maker says
-  pub record Stands (ended : S → Type 0) (may_give : S → Finished L D C → Type 0) (means : Means L D C) (turn : TableId) (now : Books L D C) (running : List (Running S)) : Type 0 where
+  -- What the next step of a worker rests on: its pass is of the turn, there is room for the report of each session that
+  -- runs, and each gives only what its maker says. Its claims rise, and each took at most one share of its numbers.
+  pub record Stands (ended : S → Type 0) (may_give : S → Finished L D C → Type 0) (means : Means L D C) (turn claims : TableId) (now : Books L D C) (running : List (Running S)) : Type 0 where
     pub of_turn : now.pass.turn ≡ turn
+    pub of_claims : now.claimer.table ≡ claims
     pub room : length running ≤ now.spare
     pub opens : All (IsOpen ended may_give means turn) running
+    pub parts : now.claimer.parts ≡ one_share
+    pub rise : length now.claimer.taken ≤ now.claimer.note
+    pub spare : 2 ^ 44 ≤ now.pass.spare + numbers * length now.claimer.taken
 
   -- what a worker has done since it began
-  pub record Works (means : Means L D C) (claims : TableId) (limit : ℕ) (start now : Books L D C) (running : List (Running S)) : Type 0 where
+  pub record Works (means : Means L D C) (limit : ℕ) (start now : Books L D C) (running : List (Running S)) : Type 0 where
     pub told : Told means start now
     pub parted : Parted start now (length running)
     pub listened : Listened start now
-    pub claimed : Claimed limit claims start now running
+    pub claimed : Claimed limit now running
