@@ -4,3 +4,4 @@ pub mod Makers
 pub mod Visits
 pub mod Books
 pub mod Works
+pub mod Doors

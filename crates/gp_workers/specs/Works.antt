@@ -80,6 +80,7 @@ module _ {S L D C : Type 0} where
     pub parts : now.claimer.parts ≡ one_share
     pub rise : length now.claimer.taken ≤ now.claimer.note
     pub spare : 2 ^ 44 ≤ now.pass.spare + numbers * length now.claimer.taken
+    pub enough : now.pass.spare ≤ now.pass.parts
 
   -- what a worker has done since it began
   pub record Works (means : Means L D C) (limit : ℕ) (start now : Books L D C) (running : List (Running S)) : Type 0 where

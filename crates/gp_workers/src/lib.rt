@@ -1,8 +1,10 @@
 //! Workers: threads that accept connections and drive their sessions, over one hub.
 #![tactic(auto)]
 
+mod admit;
 mod claims;
 mod crew;
+mod door;
 mod drawn;
 mod driven;
 mod maker;
