@@ -21,10 +21,10 @@ use Rattle.gp_workers.specs.declared.worker.Running.{Running}
 pub false-ne-true : false ≡ true → ⊥
 false-ne-true e = subst (λ (b : Bool). MatchBool b ⊥ (Unit {0})) e tt
 
-begins_more : (xs ys more zs : List Entry) → Begins xs ys → zs ≡ ys ++ more → Begins xs zs
+pub begins_more : (xs ys more zs : List Entry) → Begins xs ys → zs ≡ ys ++ more → Begins xs zs
 begins_more xs ys more zs b is = (b.0 ++ more, is ∙ (ap (λ (l : List Entry). l ++ more) b.1 ∙ append_assoc xs b.0 more))
 
-map_push : {A B : Type 0} (f : A → B) (xs : List A) (x : A) → map f (xs ++ x ∷ []) ≡ map f xs ++ f x ∷ []
+pub map_push : {A B : Type 0} (f : A → B) (xs : List A) (x : A) → map f (xs ++ x ∷ []) ≡ map f xs ++ f x ∷ []
 map_push f [] x = refl
 map_push f (y ∷ ys) x = ap (λ (l : List _). f y ∷ l) (map_push f ys x)
 

@@ -59,6 +59,7 @@ module _ {S L D C : Type 0} where
     pub number : now.pass.number ≡ before.pass.number
     pub parts : now.pass.parts ≡ before.pass.parts
     pub spare : before.pass.spare ≤ now.pass.spare + numbers
+    pub enough : now.pass.spare ≤ now.pass.parts
     pub begins : Begins before.pass.seen now.pass.seen
     pub memory : now.no_memory ≡ true
 

@@ -7,8 +7,8 @@ pub struct Crew<'a, M> {
     pub hub: &'a Hub,
     pub claims: &'a Claims,
     pub maker: &'a M,
-    /// Claims below this number are served.
-    pub limit: u32,
+    /// Claims below this number, which is below 2^32, are served.
+    pub limit: u64,
     /// How many sessions a worker has at once, at most.
     pub most: usize,
 }

@@ -28,6 +28,7 @@ returns-in-Err g c = record {
     number = search rules;
     parts = search rules;
     spare = search rules;
+    enough = search rules;
     begins = (c.join.ensures.goes_on.more, search rules);
     memory = search rules;
   });
