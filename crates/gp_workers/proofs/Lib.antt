@@ -1,3 +1,4 @@
 pub mod Claiming
 pub mod Working
 pub mod Entering
+pub mod Moving

@@ -15,6 +15,13 @@ use Rattle.gp_workers.specs.Works.{Begins, IsOpen}
 use Rattle.gp_workers.specs.declared.maker.Finished.{Finished}
 use Rattle.gp_workers.specs.declared.worker.Running.{Running}
 
+module _ {L : Type 0} where
+  -- a connection is unused
+  abbrev pub IsTaken : (L → LinkTells) → Accepted L → Type 0
+  IsTaken link (Took taken) = IsUnusedLink (link taken)
+  IsTaken link NotReady = Unit {0}
+  IsTaken link Failed = Unit {0}
+
 module _ {Ln I G L D C : Type 0} where
   -- what an accept at one of the doors says: a connection is unused, and a fault is that of its listener
   abbrev pub AcceptGave : (L → LinkTells) → (Ln → ListenTells) → KitParts Ln I G L D C → KitParts Ln I G L D C → Accepted L → Type 0
@@ -39,6 +46,21 @@ module _ {L D C : Type 0} where
     pub publishers : now.publishers ≡ before.publishers
     pub failed : now.listen_failed ≡ before.listen_failed
     pub full : now.is_full ≡ before.is_full
+
+module _ {L D C : Type 0} where
+  -- A worker looked at the claims and at a door, or made room: its pass, the claims that it took and its reports are as
+  -- they were, and a listener failed only where its faults rose.
+  pub record HasMoved (before now : Books L D C) : Type 0 where
+    pub pass : now.pass ≡ before.pass
+    pub claimer : now.claimer ≡ record before.claimer { note = now.claimer.note }
+    pub note : before.claimer.note ≤ now.claimer.note
+    pub reports : now.reports ≡ before.reports
+    pub handed : now.handed ≡ before.handed
+    pub full : now.is_full ≡ before.is_full
+    pub memory : before.no_memory ≡ true → now.no_memory ≡ true
+    pub clients : before.clients ≤ now.clients
+    pub publishers : before.publishers ≤ now.publishers
+    pub failed : now.listen_failed ≡ true → (before.listen_failed ≡ true) ⊎ (Rose before.clients now.clients ⊎ Rose before.publishers now.publishers)
 
 module _ {S L D C : Type 0} where
   -- a session was made, with the last numbers of the pass

@@ -3,7 +3,7 @@ ghost use Rattle.std.specs.Prelude.{ℕ, ◌≡◌, ◌+◌, ◌*◌, ◌<◌, �
 ghost use Rattle.std.specs.Vec.{vec_capacity, vec_len};
 ghost use Rattle.gp_outside.specs.Unused.{IsUnusedLink};
 ghost use Rattle.gp_workers.specs.Books.{Books, books};
-ghost use Rattle.gp_workers.specs.Doors.{HasBegun};
+ghost use Rattle.gp_workers.specs.Doors.{HasBegun, HasMoved, IsTaken};
 ghost use Rattle.gp_workers.specs.Makers.{numbers};
 ghost use Rattle.gp_workers.specs.Visits.{ended_by, gives_by};
 ghost use Rattle.gp_workers.specs.Works.{Stands, Works};
@@ -102,4 +102,60 @@ pub fn takes_more<M, K, S>(crew: &Crew<'_, M>, worker: &mut Worker<K, S>) -> boo
         return false;
     }
     crew.claims.next(&mut worker.claimer) < crew.limit
+}
+
+/// Whether one more session can begin, for which it makes room.
+fn prepares<M, K: Kit, S>(crew: &Crew<'_, M>, worker: &mut Worker<K, S>) -> bool
+    requires claims { worker.old.claimer.table ≡ crew.now.claims.now }
+    ensures moved { HasMoved (books K.parts K.Listen.tells worker.old) (books K.parts K.Listen.tells worker.new) }
+    ensures running { worker.new.running.items ≡ worker.old.running.items }
+    ensures kept { vec_len worker.old.running ≤ worker.old.reports.spare → vec_len worker.new.running ≤ worker.new.reports.spare }
+    ensures room { result ≡ true → (vec_len worker.new.running + 1 ≤ worker.new.reports.spare) × (vec_len worker.new.running < vec_capacity worker.new.running) }
+    ensures next { result ≡ true → (worker.new.claimer.note < crew.now.limit) × (worker.new.no_memory ≡ false) }
+{
+    if worker.running.len() >= crew.most || !takes_more(crew, worker) {
+        return false;
+    }
+    make_room(worker)
+}
+
+/// Looks for a connection at a door.
+fn look<K: Kit, S>(
+    worker: &mut Worker<K, S>,
+    door: Door,
+) -> Accepted<<K::Listen as Listen>::Link>
+    ensures moved { HasMoved (books K.parts K.Listen.tells worker.old) (books K.parts K.Listen.tells worker.new) }
+    ensures link { IsTaken K.Listen.Link.tells result }
+    ensures same { (worker.new.running ≡ worker.old.running) × (worker.new.reports ≡ worker.old.reports) × (worker.new.claimer ≡ worker.old.claimer) × (worker.new.no_memory ≡ worker.old.no_memory) }
+{
+    let accepted = accept(&mut worker.kit, door);
+    if let Accepted::Failed = &accepted {
+        worker.listen_failed = true;
+    }
+    accepted
+}
+
+/// Accepts once at a door, and says whether a connection came.
+pub fn admit<M: Maker>(
+    crew: &Crew<'_, M>,
+    worker: &mut Worker<M::Kit, Visiting<M>>,
+    door: Door,
+) -> bool
+    requires turn { M.turn crew.now.maker.now ≡ crew.now.hub.now }
+    requires limit { crew.now.limit < 2 ^ 32 }
+    requires stands { Stands (λ v. ended_by M.Client.ended M.Publisher.ended v.visit) (λ v. gives_by M.Client.may_give M.Publisher.may_give v.visit) (M.means crew.now.maker.now) crew.now.hub.now crew.now.claims.now (books M.Kit.parts M.Kit.Listen.tells worker.old) worker.old.running.items }
+    ensures stands { Stands (λ v. ended_by M.Client.ended M.Publisher.ended v.visit) (λ v. gives_by M.Client.may_give M.Publisher.may_give v.visit) (M.means crew.now.maker.now) crew.now.hub.now crew.now.claims.now (books M.Kit.parts M.Kit.Listen.tells worker.new) worker.new.running.items }
+    ensures works { (start : Books _ _ _) → Works (M.means crew.now.maker.now) crew.now.limit start (books M.Kit.parts M.Kit.Listen.tells worker.old) worker.old.running.items → Works (M.means crew.now.maker.now) crew.now.limit start (books M.Kit.parts M.Kit.Listen.tells worker.new) worker.new.running.items }
+{
+    if !prepares::<M, M::Kit, Visiting<M>>(crew, worker) {
+        return false;
+    }
+    match look::<M::Kit, Visiting<M>>(worker, door) {
+        Accepted::Took(link) => {
+            enter::<M>(crew, worker, door, link);
+            true
+        }
+        Accepted::NotReady => false,
+        Accepted::Failed => false,
+    }
 }
