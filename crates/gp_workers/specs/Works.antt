@@ -52,6 +52,11 @@ module _ {L D C : Type 0} where
     pub publishers : start.publishers ≤ now.publishers
     pub failed : now.listen_failed ≡ true → Rose start.clients now.clients ⊎ Rose start.publishers now.publishers
 
+module _ {L D C : Type 0} where
+  -- why a worker takes no more connections: the next claim is at least the limit, memory was wanting, or a listener failed
+  abbrev pub HasStopped : ℕ → Books L D C → Type 0
+  HasStopped limit now = (limit ≤ now.claimer.note) ⊎ (now.no_memory ≡ true) ⊎ (now.listen_failed ≡ true)
+
 module _ {S : Type 0} where
   -- how many of the sessions that run have the claim
   abbrev pub running_at : ℕ → List (Running S) → ℕ

@@ -10,6 +10,7 @@ mod driven;
 mod maker;
 mod poll;
 mod report;
+mod serve;
 mod visit;
 mod worker;
 
