@@ -2,3 +2,4 @@ pub mod Claiming
 pub mod Working
 pub mod Entering
 pub mod Moving
+pub mod Hiring

@@ -5,3 +5,6 @@ pub mod Visits
 pub mod Books
 pub mod Works
 pub mod Doors
+pub mod Hires
+pub mod Desks
+pub mod Served

@@ -3,6 +3,7 @@ use crate::claims::Claims;
 use gp_hub::Hub;
 
 /// What all workers share.
+#[derive(Drop)]
 pub struct Crew<'a, M> {
     pub hub: &'a Hub,
     pub claims: &'a Claims,

@@ -4,16 +4,20 @@
 mod admit;
 mod claims;
 mod crew;
+mod desk;
 mod door;
 mod drawn;
 mod driven;
+mod hire;
 mod maker;
 mod poll;
 mod report;
 mod serve;
 mod visit;
+mod workers;
 mod worker;
 
 pub use driven::Driven;
 pub use maker::{Finished, Maker, Over};
 pub use report::{SessionReport, SessionReports, WorkerReport};
+pub use workers::work;
