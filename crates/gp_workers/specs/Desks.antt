@@ -1,13 +1,15 @@
 -- What each worker gets before the threads begin.
 use Rattle.std.specs.Prelude.{ℕ, ◌≡◌, ◌+◌, ◌*◌, ◌^◌, ◌<◌, ◌≤◌, List, [], ◌∷◌}
 use Rattle.atomic_table.specs.Seated.{TableId}
+use Rattle.gp_plain.specs.declared.event.Entry.{Entry}
 use Rattle.gp_hub.specs.Passes.{HubView}
 use Rattle.gp_workers.specs.Claims.{ClaimView, all_parts, one_share}
 use Rattle.gp_workers.specs.Hires.{worker_numbers}
 use Rattle.gp_workers.specs.declared.desk.Desk.{Desk}
 
 module _ {S : Type 0} where
-  pub record IsDesk (turn claims : TableId) (desk : Desk S) : Type 0 where
+  pub record IsDesk (turn claims : TableId) (seen : List Entry) (desk : Desk S) : Type 0 where
+    pub has_seen : desk.pass.seen ≡ seen
     pub of_turn : desk.pass.turn ≡ turn
     pub spare : desk.pass.spare ≡ worker_numbers
     pub parts : desk.pass.parts ≡ worker_numbers

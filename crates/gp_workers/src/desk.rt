@@ -32,7 +32,7 @@ fn place<S: Drop>(
     requires turn { pass.old.turn ≡ hub.now }
     requires numbers { (2 ^ 44 < pass.old.spare) × (pass.old.spare ≤ pass.old.parts) }
     requires claims { (claimer.old.table ≡ claims.now) × (length claimer.old.taken + one_share ≤ claimer.old.parts) }
-    ensures ok { IfOk result (λ made. IsDesk hub.now claims.now made) }
+    ensures ok { IfOk result (IsDesk hub.now claims.now pass.old.seen) }
     ensures pass { OnOk result ((pass.new.seen ≡ pass.old.seen) × (pass.new.number ≡ pass.old.number) × (pass.new.turn ≡ pass.old.turn) × (pass.new.spare + 2 ^ 44 ≡ pass.old.spare) × (pass.new.parts + 2 ^ 44 ≡ pass.old.parts)) }
     ensures claimer { OnOk result ((claimer.new.table ≡ claimer.old.table) × (claimer.new.taken ≡ claimer.old.taken) × (claimer.new.parts + one_share ≡ claimer.old.parts)) }
     ensures err { OnErr result ((pass.new ≡ pass.old) × (claimer.new ≡ claimer.old)) }
@@ -68,7 +68,7 @@ pub fn furnish<S: Drop>(
     requires numbers { count * 2 ^ 44 < pass.old.spare }
     requires claims { (claimer.old.table ≡ claims.now) × (claimer.old.taken ≡ []) × (claimer.old.parts ≡ all_parts) }
     requires none { (desks.old.items ≡ []) × (vec_len desks.old ≡ 0) × (count ≤ vec_capacity desks.old) }
-    ensures desks { All (IsDesk hub.now claims.now) desks.new.items }
+    ensures desks { All (IsDesk hub.now claims.now pass.old.seen) desks.new.items }
     ensures count { OnOk result (length desks.new.items ≡ count) }
     ensures shared { IsShared claims.now (length desks.new.items) pass.old pass.new claimer.new }
 {

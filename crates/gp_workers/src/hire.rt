@@ -44,8 +44,9 @@ pub fn hire<K: Kit, S: Drop>(
     workers: &mut Vec<Worker<K, S>>,
     _hub: &Hub,
     _claims: &Claims,
+    _pass: &HubPass,
 )
-    requires desks { All (IsDesk _hub.now _claims.now) desks.items }
+    requires desks { All (IsDesk _hub.now _claims.now _pass.now.seen) desks.items }
     requires count { length desks.items ≡ length kits }
     requires room { (workers.old.items ≡ []) × (vec_len workers.old ≡ 0) × (length kits ≤ vec_capacity workers.old) }
     ensures kits { map (λ w. w.kit) workers.new.items ≡ kits }
@@ -76,12 +77,12 @@ pub fn hire<K: Kit, S: Drop>(
 /// Gives a desk back.
 pub fn clear<S: Drop>(
     hub: &Hub,
-    claims: &Claims,
+    _claims: &Claims,
     mut desks: Vec<Desk<S>>,
     pass: &mut HubPass,
 )
     requires turn { pass.old.turn ≡ hub.now }
-    requires desks { All (λ desk. IsDesk hub.now claims.now desk × (desk.pass.seen ≡ pass.old.seen)) desks.items }
+    requires desks { All (IsDesk hub.now _claims.now pass.old.seen) desks.items }
     ensures { (pass.new.seen ≡ pass.old.seen) × (pass.new.number ≡ pass.old.number) × (pass.new.turn ≡ pass.old.turn) × (pass.new.parts ≡ pass.old.parts + 2 ^ 44 * length desks.items) }
 {
     while let Some(desk) = desks.pop() {

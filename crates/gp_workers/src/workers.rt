@@ -56,7 +56,7 @@ pub fn work<R: Threads + Wait + Sync, M: Maker + Sync>(
         return Err(AllocError);
     }
     let taken = Queue::from_vec(mem::replace(kits, Vec::new(alloc)));
-    hire::<M::Kit, Visiting<M>>(alloc, taken, desks, &mut workers, hub, &claims);
+    hire::<M::Kit, Visiting<M>>(alloc, taken, desks, &mut workers, hub, &claims, pass);
     let crew = Crew {
         hub,
         claims: &claims,
