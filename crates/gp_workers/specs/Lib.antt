@@ -7,4 +7,3 @@ pub mod Works
 pub mod Doors
 pub mod Hires
 pub mod Desks
-pub mod Served
