@@ -3,3 +3,4 @@ pub mod Working
 pub mod Entering
 pub mod Moving
 pub mod Hiring
+pub mod Taking

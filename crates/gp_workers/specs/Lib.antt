@@ -7,3 +7,4 @@ pub mod Works
 pub mod Doors
 pub mod Hires
 pub mod Desks
+pub mod Served
