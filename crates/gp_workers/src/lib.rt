@@ -14,10 +14,8 @@ mod poll;
 mod report;
 mod serve;
 mod visit;
-mod workers;
 mod worker;
 
 pub use driven::Driven;
 pub use maker::{Finished, Maker, Over};
 pub use report::{SessionReport, SessionReports, WorkerReport};
-pub use workers::work;
