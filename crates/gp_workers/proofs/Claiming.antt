@@ -1,15 +1,15 @@
 -- Each step on the word of claims keeps its rule.
-use Rattle.std.proofs.Common.{◌≡◌, ◌≢◌, ℕ, zero, suc, ◌+◌, ◌-◌, ◌%◌, ◌^◌, ◌<◌, ◌≤◌, ◌==◌, nat_lt, max, List, [], ◌∷◌, ◌++◌, length, length-append, set, get_or, sym, refl, ap, ◌∙◌, subst, ⊎_elim, arith, Bool, true, false}
+use Rattle.std.proofs.Common.{◌≡◌, ◌≢◌, ℕ, zero, suc, ◌+◌, ◌%◌, ◌^◌, ◌<◌, ◌≤◌, List, [], ◌∷◌, ◌++◌, length, length-append, set, sym, refl, ap, ◌∙◌, subst, ⊎_elim, arith}
 use Rattle.std.specs.List.{sum_by}
 use Rattle.std.proofs.lemmas.List.Sums.{sum_by-cons, sum_by_push, sum_by-append}
 use Rattle.std.proofs.lemmas.Bool.Decides.{nat_tests}
-use mathlib.Core.Option.{none, some, some-injective, some-ne-none}
+use mathlib.Core.Option.{none, some}
 use lib.ListN.{get_elem?}
-use Rattle.atomic_table.specs.Table.{State, step, keeps, opening, Allows, Splits, Joins}
+use Rattle.atomic_table.specs.Table.{step, keeps, Allows, Splits, Joins}
 use Rattle.atomic_table.proofs.Lists.{at_set, at_snoc, set_else}
 use Rattle.gp_turn.proofs.Sums.{sum-set}
 use Rattle.gp_workers.specs.declared.drawn.Drawn.{Drawn}
-use Rattle.gp_workers.specs.Claims.{hit, times, times_of, below, drawn, spent, all_parts, one_share, Fits, IsCounted, with_claim, took, noted, looked, smaller, given_off, both_of}
+use Rattle.gp_workers.specs.Claims.{hit, times, times_of, below, spent, all_parts, one_share, Fits, IsCounted, with_claim, took, noted, looked, smaller, given_off, both_of}
 
 abbrev parts_in : Drawn → ℕ
 parts_in v = v.parts

@@ -1,15 +1,14 @@
 -- A connection that takes a claim keeps the books of its worker.
-use Rattle.std.proofs.Common.{◌≡◌, ◌≢◌, ℕ, ◌+◌, ◌-◌, ◌*◌, ◌^◌, ◌<◌, ◌≤◌, ◌==◌, ◌⊎◌, List, [], ◌∷◌, ◌++◌, append-nil, length, length-append, map, sym, refl, ap, ◌∙◌, subst, ⊎_elim, arith, Bool, true, false, MatchBool}
-use Rattle.std.specs.List.{All, sum_by}
+use Rattle.std.proofs.Common.{◌≡◌, ℕ, ◌+◌, ◌-◌, ◌<◌, ◌≤◌, List, [], ◌∷◌, ◌++◌, append-nil, length, length-append, sym, refl, ap, ◌∙◌, ⊎_elim, arith, Bool, true, false, MatchBool}
 use Rattle.std.proofs.lemmas.Bool.Decides.{nat_tests}
 use Rattle.std.proofs.lemmas.List.Elements.{All-push, All-weaker}
 use Rattle.std.proofs.lemmas.List.Sums.{sum_by_push}
 use Rattle.atomic_table.specs.Seated.{TableId}
 use Rattle.gp_hub.specs.Passes.{HubView}
-use Rattle.gp_workers.specs.Claims.{ClaimView, hit, times, one_share}
-use Rattle.gp_workers.specs.Makers.{Means, IsGiven, numbers}
+use Rattle.gp_workers.specs.Claims.{ClaimView, hit, times}
+use Rattle.gp_workers.specs.Makers.{Means, numbers}
 use Rattle.gp_workers.specs.Books.{Books, Gave}
-use Rattle.gp_workers.specs.Works.{Begins, IsOpen, Told, Parted, Listened, Claimed, Stands, Works, running_at, reported_at}
+use Rattle.gp_workers.specs.Works.{Begins, IsOpen, Told, Listened, Stands, Works}
 use Rattle.gp_workers.specs.Doors.{HasBegun, HasMade, HasRefused, IsLeft}
 use Rattle.gp_workers.specs.declared.maker.Finished.{Finished}
 use Rattle.gp_workers.specs.declared.worker.Running.{Running}

@@ -1,17 +1,13 @@
 -- A new worker begins with its books in order.
-use Rattle.std.proofs.Common.{◌≡◌, ℕ, ◌+◌, ◌*◌, ◌^◌, ◌<◌, ◌≤◌, List, [], ◌∷◌, ◌++◌, append-nil, length, map, sym, refl, ap, ◌∙◌, arith, subst, Bool, true, false, MatchBool, Option, Some, None}
-use Rattle.std.specs.List.{All}
+use Rattle.std.proofs.Common.{◌≡◌, ℕ, List, [], ◌++◌, append-nil, length, sym, refl, ap, ◌∙◌, arith, subst, Bool, true, MatchBool, Option, Some, None}
 use Rattle.std.specs.Option.{option_map}
 use Rattle.std.proofs.lemmas.List.Elements.{All-nil}
 use Rattle.atomic_table.specs.Seated.{TableId}
-use Rattle.gp_outside.specs.declared.kit.Handed.{Handed}
-use Rattle.gp_workers.specs.Claims.{times}
 use Rattle.gp_workers.specs.Makers.{Means}
 use Rattle.gp_workers.specs.Books.{Books, Gave}
-use Rattle.gp_workers.specs.Works.{Begins, Holds, IsOpen, Told, Parted, Listened, Claimed, Stands, Works}
-use Rattle.gp_workers.specs.Hires.{IsNew, worker_numbers}
+use Rattle.gp_workers.specs.Works.{Begins, Holds, IsOpen, Stands, Works}
+use Rattle.gp_workers.specs.Hires.{IsNew}
 use Rattle.gp_workers.specs.declared.maker.Finished.{Finished}
-use Rattle.gp_workers.specs.declared.worker.Running.{Running}
 use Rattle.gp_workers.proofs.Working.{false-ne-true}
 
 handed_none : {A : Type 0} (told : Option (List A)) → told ≡ option_map (λ (all : List A). all ++ []) told

@@ -1,10 +1,10 @@
 -- What looks at the doors and at the claims keeps the books of a worker.
-use Rattle.std.proofs.Common.{◌≡◌, ℕ, ◌+◌, ◌*◌, ◌<◌, ◌≤◌, ◌⊎◌, inl, inr, List, [], append-nil, length, min, sym, refl, ap, ◌∙◌, ⊎_elim, arith, Bool, true, false}
+use Rattle.std.proofs.Common.{◌≡◌, ℕ, ◌≤◌, inl, inr, List, [], append-nil, length, sym, ap, ◌∙◌, ⊎_elim, arith}
 use Rattle.atomic_table.specs.Seated.{TableId}
 use Rattle.gp_hub.specs.Passes.{HubView}
 use Rattle.gp_outside.specs.Counts.{Rose}
 use Rattle.gp_workers.specs.Claims.{ClaimView}
-use Rattle.gp_workers.specs.Makers.{Means, numbers}
+use Rattle.gp_workers.specs.Makers.{Means}
 use Rattle.gp_workers.specs.Books.{Books}
 use Rattle.gp_workers.specs.Works.{Listened, Stands, Works}
 use Rattle.gp_workers.specs.Doors.{HasMoved}

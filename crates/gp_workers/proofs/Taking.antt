@@ -1,5 +1,5 @@
 -- Lists that are taken from their front.
-use Rattle.std.proofs.Common.{◌≡◌, ℕ, ◌+◌, ◌<◌, List, [], ◌∷◌, ◌++◌, append_assoc, append-nil, length, map, drop, slice_get, sym, refl, ap, subst, ◌∙◌, arith, Option, Some, None, rules}
+use Rattle.std.proofs.Common.{◌≡◌, ◌+◌, List, [], ◌∷◌, ◌++◌, append_assoc, length, map, drop, slice_get, sym, refl, ap, subst, ◌∙◌, arith, Some, None, rules}
 use Rattle.std.specs.List.{All}
 use Rattle.std.proofs.lemmas.List.Elements.{All-head, All-tail}
 use Rattle.gp_workers.proofs.Working.{map_push}

@@ -1,6 +1,6 @@
 -- What a worker does keeps its books.
-use Rattle.std.proofs.Common.{◌≡◌, ◌≢◌, ℕ, ◌+◌, ◌-◌, ◌*◌, ◌<◌, ◌≤◌, ◌⊎◌, List, [], ◌∷◌, ◌++◌, append_assoc, append-nil, length, length-set, map, set, get_or, sym, refl, ap, ◌∙◌, subst, ⊎_elim, arith, Bool, true, false, MatchBool, Option, Some, None}
-use Rattle.std.specs.List.{All, sum_by, swap_remove}
+use Rattle.std.proofs.Common.{◌≡◌, ℕ, ◌+◌, ◌<◌, List, [], ◌∷◌, ◌++◌, append_assoc, append-nil, length, length-set, map, set, get_or, sym, refl, ap, ◌∙◌, subst, ⊎_elim, arith, Bool, true, false, MatchBool, Option, Some, None}
+use Rattle.std.specs.List.{swap_remove}
 use Rattle.std.specs.Option.{option_map}
 use Rattle.std.proofs.lemmas.List.Elements.{All-push, All-weaker}
 use Rattle.std.proofs.lemmas.List.{get_or-set_same}
@@ -8,12 +8,11 @@ use Rattle.std.proofs.lemmas.List.Sums.{sum_by_push, sum_by-swap_remove, sum_by-
 use Rattle.atomic_table.specs.Seated.{TableId}
 use Rattle.gp_plain.specs.declared.event.Entry.{Entry}
 use Rattle.gp_outside.specs.declared.kit.Handed.{Handed}
-use Rattle.gp_turn.specs.Passes.{with_joined}
 use Rattle.gp_hub.specs.Passes.{HubView}
-use Rattle.gp_workers.specs.Claims.{hit, times}
-use Rattle.gp_workers.specs.Makers.{Means, IsGiven, numbers}
+use Rattle.gp_workers.specs.Claims.{hit}
+use Rattle.gp_workers.specs.Makers.{Means, IsGiven}
 use Rattle.gp_workers.specs.Books.{Books, Gave, handed_of, report_of, Hands, HasFinished}
-use Rattle.gp_workers.specs.Works.{Begins, Holds, Told, Parted, Listened, Claimed, Works, running_at, reported_at}
+use Rattle.gp_workers.specs.Works.{Begins, Holds, Told, Works, running_at}
 use Rattle.gp_workers.specs.declared.maker.Finished.{Finished}
 use Rattle.gp_workers.specs.declared.report.SessionReport.{SessionReport}
 use Rattle.gp_workers.specs.declared.worker.Running.{Running}
@@ -37,8 +36,8 @@ module _ {L D C : Type 0} where
       → MatchBool is (n.handed ≡ b.handed) (n.handed ≡ option_map (λ (all : List (Handed L D C)). all ++ handed_of g ∷ []) b.handed)
       → Hands b n (handed_of g)
       → (back' : List (Gave L D C)) × (lost' : List (Gave L D C)) × (gave ++ g ∷ [] ≡ back' ++ lost')
-          × (n.handed ≡ option_map (λ (all : List (Handed L D C)). all ++ map handed_of back') start.handed)
-          × MatchBool is (n.no_memory ≡ true) (lost' ≡ [])
+      × (n.handed ≡ option_map (λ (all : List (Handed L D C)). all ++ map handed_of back') start.handed)
+      × MatchBool is (n.no_memory ≡ true) (lost' ≡ [])
   hands_by start b n gave back lost g was true ew ei split handed full now h = (
     back,
     lost ++ g ∷ [],

@@ -1,18 +1,13 @@
 -- The books of a worker: what it has, and how they change.
-use Rattle.std.specs.Prelude.{ℕ, ◌≡◌, ◌≢◌, ◌+◌, ◌-◌, ◌*◌, ◌^◌, ◌<◌, ◌≤◌, ◌⊎◌, Bool, true, false, MatchBool, List, [], ◌∷◌, ◌++◌, All, length, map, Option, option_map}
-use Rattle.atomic_table.specs.Seated.{TableId}
-use Rattle.gp_plain.specs.declared.event.Entry.{Entry}
-use Rattle.gp_outside.specs.Counts.{Rose}
+use Rattle.std.specs.Prelude.{ℕ, ◌≡◌, ◌-◌, ◌⊎◌, Bool, true, MatchBool, List, [], ◌∷◌, ◌++◌, Option, option_map}
 use Rattle.gp_outside.specs.Kits.{KitParts}
 use Rattle.gp_outside.specs.Listens.{ListenTells}
 use Rattle.gp_outside.specs.declared.kit.Handed.{Handed}
 use Rattle.gp_turn.specs.Passes.{with_joined}
 use Rattle.gp_hub.specs.Passes.{HubView, GoesOnFrom}
 use Rattle.gp_workers.specs.Claims.{ClaimView}
-use Rattle.gp_workers.specs.Makers.{Means, IsGiven, numbers}
 use Rattle.gp_workers.specs.declared.maker.Finished.{Finished}
 use Rattle.gp_workers.specs.declared.report.SessionReport.{SessionReport}
-use Rattle.gp_workers.specs.declared.worker.Running.{Running}
 use Rattle.gp_workers.specs.declared.worker.Worker.{Worker}
 
 -- what is told of a worker: its pass, its claimer, its reports and for how many more there is room, what its kit was

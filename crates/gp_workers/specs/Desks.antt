@@ -1,5 +1,5 @@
 -- What each worker gets before the threads begin.
-use Rattle.std.specs.Prelude.{ℕ, ◌≡◌, ◌+◌, ◌*◌, ◌^◌, ◌<◌, ◌≤◌, List, [], ◌∷◌}
+use Rattle.std.specs.Prelude.{ℕ, ◌≡◌, ◌+◌, ◌*◌, List, []}
 use Rattle.atomic_table.specs.Seated.{TableId}
 use Rattle.gp_plain.specs.declared.event.Entry.{Entry}
 use Rattle.gp_hub.specs.Passes.{HubView}

@@ -1,11 +1,10 @@
 -- Workers before and after their work.
-use Rattle.std.specs.Prelude.{ℕ, ◌≡◌, ◌+◌, ◌*◌, ◌^◌, ◌<◌, ◌≤◌, false, List, [], ◌∷◌, length}
+use Rattle.std.specs.Prelude.{ℕ, ◌≡◌, ◌^◌, false, List, []}
 use Rattle.atomic_table.specs.Seated.{TableId}
 use Rattle.gp_workers.specs.Makers.{Means}
 use Rattle.gp_workers.specs.Claims.{one_share}
 use Rattle.gp_workers.specs.Books.{Books}
-use Rattle.gp_workers.specs.Works.{HasStopped, Stands, Works}
-use Rattle.gp_workers.specs.declared.maker.Finished.{Finished}
+use Rattle.gp_workers.specs.Works.{HasStopped, Works}
 use Rattle.gp_workers.specs.declared.worker.Running.{Running}
 
 -- how many numbers the pass of a worker has

@@ -1,5 +1,5 @@
 -- What is reported of the holds of a session.
-use Rattle.std.specs.Prelude.{ℕ, ◌≡◌, ◌≢◌, ◌+◌, ◌-◌, ◌^◌, ◌==◌, ◌&&◌, min, Bool, true, false, cond, List, [], ◌∷◌, All, length, map, count_by}
+use Rattle.std.specs.Prelude.{ℕ, ◌+◌, ◌-◌, ◌^◌, ◌&&◌, min, Bool, true, false, cond, List, [], ◌∷◌, length, count_by}
 use Rattle.gp_plain.specs.Holds.{Held, end_or_detached, position_of, terms_of}
 use Rattle.gp_plain.specs.History.{held}
 use Rattle.gp_plain.specs.Others.{Share, share_of}

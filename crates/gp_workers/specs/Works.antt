@@ -1,12 +1,10 @@
 -- What holds of a worker at each moment of its work.
-use Rattle.std.specs.Prelude.{ℕ, ◌≡◌, ◌≢◌, ◌+◌, ◌-◌, ◌*◌, ◌^◌, ◌<◌, ◌≤◌, ◌⊎◌, Bool, true, false, MatchBool, List, [], ◌∷◌, ◌++◌, All, length, map, sum_by, Option, option_map}
+use Rattle.std.specs.Prelude.{ℕ, ◌≡◌, ◌+◌, ◌*◌, ◌^◌, ◌<◌, ◌≤◌, ◌⊎◌, true, MatchBool, List, [], ◌++◌, All, length, map, sum_by, option_map}
 use Rattle.atomic_table.specs.Seated.{TableId}
 use Rattle.gp_plain.specs.declared.event.Entry.{Entry}
 use Rattle.gp_outside.specs.Counts.{Rose}
 use Rattle.gp_outside.specs.declared.kit.Handed.{Handed}
-use Rattle.gp_turn.specs.Passes.{range, ranges_of, times_in}
-use Rattle.gp_hub.specs.Passes.{HubView, GoesOnFrom}
-use Rattle.gp_workers.specs.Claims.{ClaimView, hit, times, one_share}
+use Rattle.gp_workers.specs.Claims.{hit, times, one_share}
 use Rattle.gp_workers.specs.Makers.{Means, IsGiven, numbers}
 use Rattle.gp_workers.specs.Books.{Books, Gave, handed_of, report_of}
 use Rattle.gp_workers.specs.declared.maker.Finished.{Finished}

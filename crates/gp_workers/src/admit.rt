@@ -120,10 +120,7 @@ fn prepares<M, K: Kit, S>(crew: &Crew<'_, M>, worker: &mut Worker<K, S>) -> bool
 }
 
 /// Looks for a connection at a door.
-fn look<K: Kit, S>(
-    worker: &mut Worker<K, S>,
-    door: Door,
-) -> Accepted<<K::Listen as Listen>::Link>
+fn look<K: Kit, S>(worker: &mut Worker<K, S>, door: Door) -> Accepted<<K::Listen as Listen>::Link>
     ensures moved { HasMoved (books K.parts K.Listen.tells worker.old) (books K.parts K.Listen.tells worker.new) }
     ensures link { IsTaken K.Listen.Link.tells result }
     ensures same { (worker.new.running ≡ worker.old.running) × (worker.new.reports ≡ worker.old.reports) × (worker.new.claimer ≡ worker.old.claimer) × (worker.new.no_memory ≡ worker.old.no_memory) }

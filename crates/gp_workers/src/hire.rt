@@ -75,12 +75,7 @@ pub fn hire<K: Kit, S: Drop>(
 }
 
 /// Gives a desk back.
-pub fn clear<S: Drop>(
-    hub: &Hub,
-    _claims: &Claims,
-    mut desks: Vec<Desk<S>>,
-    pass: &mut HubPass,
-)
+pub fn clear<S: Drop>(hub: &Hub, _claims: &Claims, mut desks: Vec<Desk<S>>, pass: &mut HubPass)
     requires turn { pass.old.turn ≡ hub.now }
     requires desks { All (IsDesk hub.now _claims.now pass.old.seen) desks.items }
     ensures { (pass.new.seen ≡ pass.old.seen) × (pass.new.number ≡ pass.old.number) × (pass.new.turn ≡ pass.old.turn) × (pass.new.parts ≡ pass.old.parts + 2 ^ 44 * length desks.items) }

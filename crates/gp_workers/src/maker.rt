@@ -20,8 +20,11 @@ pub struct Finished<L, D, C> {
 }
 
 /// What a session over the devices of a kit leaves.
-pub type Over<K> =
-    Finished<<<K as Kit>::Listen as Listen>::Link, <K as Kit>::Dial, <K as Kit>::Clock>;
+pub type Over<K> = Finished<
+    <<K as Kit>::Listen as Listen>::Link,
+    <K as Kit>::Dial,
+    <K as Kit>::Clock,
+>;
 
 /// What makes the sessions of a server, for clients and for publishers.
 pub trait Maker {

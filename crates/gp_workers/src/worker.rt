@@ -31,12 +31,7 @@ pub struct Worker<K, S> {
 }
 
 /// Ends a session: joins its pass, reports it, and hands its devices back.
-pub fn finish<K: Kit, S>(
-    worker: &mut Worker<K, S>,
-    hub: &Hub,
-    claim: u32,
-    over: Over<K>,
-)
+pub fn finish<K: Kit, S>(worker: &mut Worker<K, S>, hub: &Hub, claim: u32, over: Over<K>)
     requires turn { (worker.old.pass.turn ≡ hub.now) × (over.outcome.pass.turn ≡ hub.now) }
     requires room { 0 < worker.old.reports.spare }
     ensures finished { HasFinished (record { claim = claim; over = over }) (books K.parts K.Listen.tells worker.old) (books K.parts K.Listen.tells worker.new) }
@@ -48,7 +43,10 @@ pub fn finish<K: Kit, S>(
         others,
     } = over;
     let Outcome {
-        end, holds, pass, ..
+        end,
+        holds,
+        pass,
+        ..
     } = outcome;
     let number = pass.number();
     hub.join(pass, &mut worker.pass);

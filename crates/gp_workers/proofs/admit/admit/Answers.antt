@@ -1,6 +1,5 @@
-use Rattle.std.proofs.Common.{rules, ℕ, ◌≡◌, ◌∙◌, ap, List}
-use Rattle.gp_workers.specs.Books.{Books, books}
-use Rattle.gp_workers.specs.Works.{Works}
+use Rattle.std.proofs.Common.{ap}
+use Rattle.gp_workers.specs.Books.{books}
 use Rattle.gp_workers.proofs.Moving.{moved_works}
 use Rattle.gp_workers.proofs.admit.admit.Goals as goal
 

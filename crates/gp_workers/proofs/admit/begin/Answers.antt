@@ -1,6 +1,4 @@
-use Rattle.std.proofs.Common.{rules, ℕ, ◌≡◌, ◌+◌, ◌-◌, ◌<◌, ◌≤◌, length, List, [], ◌∷◌, ◌++◌, inl, inr, arith, ap, ◌∙◌, sym}
-use Rattle.gp_hub.specs.Passes.{HubView}
-use Rattle.gp_workers.specs.Doors.{HasBegun}
+use Rattle.std.proofs.Common.{rules, inl, inr}
 use Rattle.gp_workers.proofs.admit.begin.Goals as goal
 
 -- src/admit.rt:22:1

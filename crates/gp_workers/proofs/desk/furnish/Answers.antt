@@ -1,8 +1,6 @@
-use Rattle.std.proofs.Common.{rules, ℕ, ◌≡◌, ◌+◌, ◌*◌, ◌≤◌, ◌^◌, [], ◌∷◌, ◌++◌, All, length, List, arith}
+use Rattle.std.proofs.Common.{rules, ◌≡◌}
 use Rattle.std.proofs.lemmas.List.Elements.{All-push}
-use Rattle.std.specs.Vec.{vec_capacity, vec_len}
-use Rattle.gp_workers.specs.Claims.{all_parts, one_share}
-use Rattle.gp_workers.specs.Desks.{IsDesk, IsShared}
+use Rattle.gp_workers.specs.Desks.{IsDesk}
 use Rattle.gp_workers.proofs.desk.furnish.Goals as goal
 
 -- src/desk.rt:76:5

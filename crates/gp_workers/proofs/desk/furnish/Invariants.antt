@@ -1,7 +1,6 @@
-use Rattle.std.proofs.Common.{ℕ, ◌≡◌, ◌+◌, ◌*◌, ◌^◌, ◌<◌, ◌≤◌, length, List, []}
+use Rattle.std.proofs.Common.{◌≡◌, ◌≤◌, length}
 use Rattle.std.specs.List.{All}
 use Rattle.std.specs.Vec.{vec_capacity, vec_len}
-use Rattle.gp_workers.specs.Claims.{all_parts}
 use Rattle.gp_workers.specs.Desks.{IsDesk, IsShared}
 use Rattle.gp_workers.proofs.desk.furnish.Given as goal
 

@@ -1,4 +1,4 @@
-use Rattle.std.proofs.Common.{rules, ℕ, ◌≡◌, ◌+◌, ◌*◌, ◌^◌, [], length, List, arith}
+use Rattle.std.proofs.Common.{◌≡◌, length, arith}
 use Rattle.gp_workers.proofs.hire.clear.Goals as goal
 
 -- src/hire.rt:78:1

@@ -1,4 +1,4 @@
-use Rattle.std.proofs.Common.{ℕ, ◌≡◌, ◌+◌, ◌*◌, ◌^◌, List, length}
+use Rattle.std.proofs.Common.{◌≡◌, ◌+◌, ◌*◌, ◌^◌, length}
 use Rattle.std.specs.List.{All}
 use Rattle.gp_workers.specs.Desks.{IsDesk}
 use Rattle.gp_workers.proofs.hire.clear.Given as goal

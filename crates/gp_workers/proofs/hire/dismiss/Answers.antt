@@ -1,7 +1,5 @@
-use Rattle.std.proofs.Common.{rules, ℕ, ◌≡◌, ◌+◌, ◌*◌, ◌<◌, ◌≤◌, ◌^◌, [], ◌∷◌, ◌++◌, All, append-nil, length, map, drop, List, Some, sym, ◌∙◌, ap, arith}
-use Rattle.std.specs.Vec.{vec_capacity, vec_len}
+use Rattle.std.proofs.Common.{rules, ◌≡◌, ◌+◌, ◌^◌, [], ◌∷◌, ◌++◌, append-nil, sym, ◌∙◌, ap, arith}
 use Rattle.std.proofs.lemmas.List.Elements.{All-push, All-weaker}
-use Rattle.gp_plain.specs.declared.event.Entry.{Entry}
 use Rattle.gp_hub.specs.Passes.{HubView}
 use Rattle.gp_workers.specs.Served.{worker_report}
 use Rattle.gp_workers.specs.Works.{Begins}
@@ -47,8 +45,7 @@ loop-worker-preserved g c =
     let before = c.loop-worker.invariant.6 in
     let kits_len = c.push_reserved.ensures.len in let kits_room = c.push_reserved.ensures.capacity in
     let reports_len = c.push_reserved-in-Some.ensures.len in let reports_room = c.push_reserved-in-Some.ensures.capacity in
-    let done = c.loop-worker.invariant.8 in
-    (
+    let done = c.loop-worker.invariant.8 in (
       rw left (rest_of (λ w. (w.pass.turn ≡ c.args.hub.now) × (w.pass.parts ≡ 2 ^ 44) × (w.claimer.table ≡ c.args.claims.now)) c.loop-worker.workers c.in-Some.worker c.loop-worker.invariant.0 first),
       search rules,
       rw left (omega arith),

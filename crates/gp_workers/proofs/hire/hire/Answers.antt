@@ -1,5 +1,4 @@
-use Rattle.std.proofs.Common.{rules, ℕ, ◌≡◌, ◌+◌, ◌<◌, ◌≤◌, [], ◌∷◌, ◌++◌, All, length, length-append, map, drop, slice_get, List, Some, false, true, sym, ◌∙◌, ap, arith}
-use Rattle.std.specs.Vec.{vec_capacity, vec_len}
+use Rattle.std.proofs.Common.{rules, ◌≡◌, ◌+◌, [], ◌∷◌, ◌++◌, All, length, length-append, slice_get, List, Some, sym, ◌∙◌, ap, arith}
 use Rattle.std.proofs.lemmas.List.Elements.{All-push, All-head}
 use Rattle.gp_turn.proofs.Histories.{all_front, all_back}
 use Rattle.gp_workers.specs.Desks.{IsDesk}

@@ -1,5 +1,4 @@
-use Rattle.std.proofs.Common.{ℕ, ◌≡◌, [], List}
-use Rattle.gp_workers.specs.Books.{Books, books}
+use Rattle.gp_workers.specs.Books.{books}
 use Rattle.gp_workers.proofs.Hiring.{new_works}
 use Rattle.gp_workers.proofs.hire.serve_new.Goals as goal
 

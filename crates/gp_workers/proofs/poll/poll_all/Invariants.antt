@@ -1,4 +1,4 @@
-use Rattle.std.proofs.Common.{ℕ, ◌-◌, length}
+use Rattle.std.proofs.Common.{◌-◌, length}
 use Rattle.gp_workers.specs.Books.{Books, books}
 use Rattle.gp_workers.specs.Works.{Stands, Works}
 use Rattle.gp_workers.proofs.poll.poll_all.Given as goal

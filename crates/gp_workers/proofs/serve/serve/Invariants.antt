@@ -1,4 +1,3 @@
-use Rattle.std.proofs.Common.{ℕ}
 use Rattle.gp_workers.specs.Books.{Books, books}
 use Rattle.gp_workers.specs.Visits.{ended_by, gives_by}
 use Rattle.gp_workers.specs.Works.{Stands, Works}

@@ -1,4 +1,4 @@
-use Rattle.std.proofs.Common.{rules, arith, ◌≡◌, ◌<◌}
+use Rattle.std.proofs.Common.{rules, arith, ◌<◌}
 use Rattle.gp_workers.proofs.Claiming.{joins}
 use Rattle.gp_workers.proofs.claims.Claims.join.Goals as goal
 

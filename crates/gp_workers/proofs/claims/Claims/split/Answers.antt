@@ -1,4 +1,4 @@
-use Rattle.std.proofs.Common.{rules, arith, ◌≡◌, ◌<◌}
+use Rattle.std.proofs.Common.{rules, arith, ◌<◌}
 use Rattle.gp_workers.proofs.Claiming.{splits}
 use Rattle.gp_workers.proofs.claims.Claims.split.Goals as goal
 
