@@ -36,11 +36,11 @@ pub struct Handed<L, D, C> {
 /// afterwards as its borrower left it. It gives a dialer and a clock to each session that asks, and takes the devices
 /// of ended sessions back.
 pub trait Kit: Drop {
-    type Listen: Listen;
+    type Listen: Listen + Send;
 
-    type Dial: Dial;
+    type Dial: Dial + Send;
 
-    type Clock: Clock;
+    type Clock: Clock + Send;
 
     type Idle: Idle;
 

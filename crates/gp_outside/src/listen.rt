@@ -14,7 +14,7 @@ pub enum Accepted<L> {
 /// What clients connect to. It counts its faults, and how often nobody was there. No count falls, and each stands
 /// still at 2^64 - 1.
 pub trait Listen: Drop {
-    type Link: Link;
+    type Link: Link + Send;
 
     ghost use Rattle.gp_outside.specs.Listens.{IsAccept, ListenTells};
 

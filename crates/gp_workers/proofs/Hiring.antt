@@ -1,0 +1,53 @@
+-- A new worker begins with its books in order.
+use Rattle.std.proofs.Common.{◌≡◌, ℕ, List, [], ◌++◌, append-nil, length, sym, refl, ap, ◌∙◌, arith, subst, Bool, true, MatchBool, Option, Some, None}
+use Rattle.std.specs.Option.{option_map}
+use Rattle.std.proofs.lemmas.List.Elements.{All-nil}
+use Rattle.atomic_table.specs.Seated.{TableId}
+use Rattle.gp_workers.specs.Makers.{Means}
+use Rattle.gp_workers.specs.Books.{Books, Gave}
+use Rattle.gp_workers.specs.Works.{Begins, Holds, IsOpen, Stands, Works}
+use Rattle.gp_workers.specs.Hires.{IsNew}
+use Rattle.gp_workers.specs.declared.maker.Finished.{Finished}
+use Rattle.gp_workers.proofs.Working.{false-ne-true}
+
+handed_none : {A : Type 0} (told : Option (List A)) → told ≡ option_map (λ (all : List A). all ++ []) told
+handed_none None = refl
+handed_none (Some all) = ap (λ (l : List _). Some l) (sym (append-nil all))
+
+module _ {S L D C : Type 0} where
+  pub new_stands : (ended : S → Type 0) (may_give : S → Finished L D C → Type 0) (means : Means L D C) (turn claims : TableId) (now : Books L D C) → IsNew turn claims now → Stands ended may_give means turn claims now []
+  new_stands ended may_give means turn claims now n =
+      let none : length now.claimer.taken ≡ 0 = ap (λ (l : List ℕ). length l) n.taken in
+      let spare = n.spare in let parts = n.parts in record {
+        of_turn = n.of_turn;
+        of_claims = n.of_claims;
+        room = omega arith;
+        opens = All-nil (IsOpen ended may_give means turn);
+        parts = n.share;
+        rise = omega arith;
+        spare = omega arith;
+        enough = omega arith;
+      }
+
+  pub new_works : (means : Means L D C) (limit : ℕ) (turn claims : TableId) (now : Books L D C) → IsNew turn claims now → Works {S = S} means limit now now []
+  new_works means limit turn claims now n = record {
+    told = record {
+      gave = [];
+      back = [];
+      lost = [];
+      split = refl;
+      reports = sym (append-nil now.reports);
+      handed = handed_none now.handed;
+      full = subst (λ (is : Bool). MatchBool is (now.no_memory ≡ true) (◌≡◌ {A = List (Gave L D C)} [] [])) (sym n.full) refl;
+      holds = All-nil (Holds means);
+      seen = All-nil (λ (one : Gave L D C). Begins one.over.outcome.pass.seen now.pass.seen);
+    };
+    parted = record { number = refl; parts = omega arith };
+    listened = record { clients = omega arith; publishers = omega arith; failed = λ failed. absurd (false-ne-true (sym n.failed ∙ failed)) };
+    claimed = record {
+      lost = [];
+      few = omega arith;
+      memory = λ some. absurd (omega arith);
+      each = λ x below. rw (n.taken, n.reports) refl;
+    };
+  }

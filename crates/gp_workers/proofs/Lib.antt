@@ -1,0 +1,6 @@
+pub mod Claiming
+pub mod Working
+pub mod Entering
+pub mod Moving
+pub mod Hiring
+pub mod Taking

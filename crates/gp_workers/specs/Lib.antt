@@ -1,0 +1,10 @@
+pub mod Claims
+pub mod Reports
+pub mod Makers
+pub mod Visits
+pub mod Books
+pub mod Works
+pub mod Doors
+pub mod Hires
+pub mod Desks
+pub mod Served
