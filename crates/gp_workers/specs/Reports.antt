@@ -1,9 +1,9 @@
 -- What is reported of the holds of a session.
-use Rattle.std.specs.Prelude.{ℕ, ◌+◌, ◌-◌, ◌^◌, ◌&&◌, min, Bool, true, false, cond, List, [], ◌∷◌, length, count_by}
-use Rattle.gp_plain.specs.Holds.{Held, end_or_detached, position_of, terms_of}
+use Rattle.std.specs.Prelude.{ℕ, ◌+◌, ◌&&◌, Bool, true, false, cond, List, [], ◌∷◌, count_by}
+use Rattle.gp_plain.specs.Holds.{Held}
 use Rattle.gp_plain.specs.History.{held}
+use Rattle.gp_plain.specs.Reports.{report}
 use Rattle.gp_plain.specs.Others.{Share, share_of}
-use Rattle.gp_plain.specs.Pieces.{text}
 use Rattle.gp_plain.specs.declared.event.Entry.{Entry}
 use Rattle.gp_plain.specs.declared.event.Event.{Event}
 use Rattle.gp_plain.specs.declared.event.Event.TheVariants.{Attach, Publish, Take, Page, PageFailed, Push, Join, Leave, Detach}
@@ -11,14 +11,9 @@ use Rattle.gp_plain.specs.declared.reply.HoldReport.{HoldReport}
 use Rattle.gp_turn.specs.Passes.{is_in}
 use Rattle.gp_turn.specs.declared.range.Range.{Range}
 
--- a number as it is told
-abbrev pub told : ℕ → ℕ
-told n = min n (2 ^ 64 - 1)
-
--- the report of a hold: the number and bytes of the pieces that were taken, the position behind them, and the end that
--- was told, or Detached
+-- the report of a hold with its number
 abbrev pub hold_report : ℕ × Share → HoldReport
-hold_report hold = record { number = hold.0; kind = (terms_of hold.1.spec).kind; pieces = told (length hold.1.taken); bytes = told (length (text hold.1.taken)); position = position_of hold.1.spec hold.1.taken; end = end_or_detached hold.1.told }
+hold_report hold = report hold.0 hold.1
 
 -- the holds whose owners stand in a range, each with its number; the first hold has a number
 abbrev pub owned_from : Range → ℕ → List Held → List (ℕ × Share)
