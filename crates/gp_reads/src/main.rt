@@ -11,6 +11,7 @@ mod bodies;
 mod grip;
 mod handshakes;
 mod heads;
+mod holds;
 mod items;
 mod json;
 mod routes;
@@ -106,6 +107,15 @@ fn of_grip(alloc: Global, kind: &str, row: &Row<'_>) -> Result<Option<Vec<u8>>, 
         "grip-under" => {
             let fields = unescaped(alloc, row.first)?;
             grip::body(alloc, fields.as_slice(), row.behind_first.as_slice())?
+        }
+        "held" => {
+            let fields = unescaped(alloc, row.second)?;
+            holds::held(
+                alloc,
+                row.first,
+                fields.as_slice(),
+                row.behind_second.as_slice(),
+            )?
         }
         "instruct-type" => grip::is_instruct_type(alloc, bytes)?,
         _ => return Ok(None),

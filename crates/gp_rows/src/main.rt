@@ -15,7 +15,7 @@ mod texts;
 
 use case::Case;
 use owners::owners;
-use passes::passes;
+use passes::{own_calls, passes};
 use plain::{copies, lists, names, tallies};
 use std::alloc::{AllocError, Global};
 use std::io;
@@ -33,6 +33,7 @@ fn named(alloc: Global, name: &str) -> Result<Option<String>, AllocError> {
         "texts" => Ok(Some(texts(alloc)?)),
         "owners" => Ok(Some(owners(alloc)?)),
         "passes" => Ok(Some(passes(alloc)?)),
+        "own-calls" => Ok(Some(own_calls(alloc)?)),
         "names" => Ok(Some(names(alloc)?)),
         "copies" => Ok(Some(copies(alloc)?)),
         "lists" => Ok(Some(lists(alloc)?)),
