@@ -7,6 +7,7 @@
 #![tactic(auto)]
 
 mod clock;
+mod crossing;
 mod dial;
 mod idle;
 mod line;
@@ -14,6 +15,8 @@ mod link;
 mod listen;
 mod ready;
 mod socket;
+#[cfg(test)]
+mod tests;
 
 pub use clock::NetClock;
 pub use dial::NetDial;
