@@ -1,18 +1,13 @@
 //! The devices move to the thread of their worker.
-use crate::dial::NetDial;
-use crate::idle::NetIdle;
-use crate::listen::NetListen;
+use crate::kit::NetKit;
 use std::net::Net;
+use std::time;
 
 fn moves<T: Send>(value: T) -> T {
     value
 }
 
-/// A listener, an idle and a dialer may be moved.
-pub(crate) fn crosses<R: Net + Drop + Send>(
-    listen: NetListen,
-    idle: NetIdle,
-    dial: NetDial<R>,
-) -> (NetListen, NetIdle, NetDial<R>) {
-    (moves(listen), moves(idle), moves(dial))
+/// A kit may be moved.
+pub(crate) fn crosses<R: Net + time::Clock + Copy + Drop + Send>(kit: NetKit<R>) -> NetKit<R> {
+    moves(kit)
 }

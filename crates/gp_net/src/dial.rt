@@ -34,8 +34,8 @@ impl<R: Net + Drop> Model for NetDial<R> {
 }
 
 impl<R: Net + Drop> NetDial<R> {
-    /// A dialer in no talk.
-    pub fn new(alloc: Global, net: R, sockets: Sockets) -> NetDial<R>
+    /// A dialer in no talk. Without sockets each connect fails.
+    pub fn new(alloc: Global, net: R, sockets: Option<Sockets>) -> NetDial<R>
         ensures { IsUnusedDial result }
     {
         NetDial {

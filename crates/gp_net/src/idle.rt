@@ -2,7 +2,7 @@
 use crate::ready::Sockets;
 use gp_outside::Idle;
 use mio::event::Event;
-use mio::{Events, Poll};
+use mio::{Events, Poll, Token, Waker};
 use std::alloc::{AllocError, Global};
 use std::io;
 use std::net::Net;
@@ -40,6 +40,11 @@ impl NetIdle {
     /// A handle to its sockets, for listeners and dialers.
     pub fn sockets(&self) -> Result<Sockets, AllocError> {
         self.sockets.copy()
+    }
+
+    /// What ends its rest, or its next one, from another thread. It has no place among the sockets.
+    pub(crate) fn waker(&self) -> io::Result<Waker> {
+        Waker::new(self.poll.registry(), Token(usize::MAX))
     }
 }
 

@@ -6,13 +6,16 @@
 //! call of the system. It stands on `gp_outside` and `mio`.
 #![tactic(auto)]
 
+mod bells;
 mod clock;
 mod crossing;
 mod dial;
 mod idle;
+mod kit;
 mod line;
 mod link;
 mod listen;
+mod ports;
 mod ready;
 mod socket;
 #[cfg(test)]
@@ -21,6 +24,8 @@ mod tests;
 pub use clock::NetClock;
 pub use dial::NetDial;
 pub use idle::NetIdle;
+pub use kit::NetKit;
 pub use link::NetLink;
 pub use listen::NetListen;
+pub use ports::Ports;
 pub use ready::Sockets;

@@ -29,13 +29,13 @@ enum Talk {
 pub(crate) struct Line<R: Net + Drop> {
     alloc: Global,
     net: R,
-    sockets: Sockets,
+    sockets: Option<Sockets>,
     talk: Talk,
 }
 
 impl<R: Net + Drop> Line<R> {
     /// A line in no talk.
-    pub(crate) fn new(alloc: Global, net: R, sockets: Sockets) -> Line<R> {
+    pub(crate) fn new(alloc: Global, net: R, sockets: Option<Sockets>) -> Line<R> {
         Line {
             alloc,
             net,
@@ -54,6 +54,11 @@ impl<R: Net + Drop> Line<R> {
             addresses.push(*address).ok()?;
         }
         Some(addresses)
+    }
+
+    /// Begins to connect to an address.
+    fn socket_to(&self, address: SocketAddr) -> Option<Socket> {
+        Socket::to_origin(&self.net, address, self.sockets.as_ref()?)
     }
 
     /// Waits for a socket, or goes on with the next address that can be tried.
@@ -76,7 +81,7 @@ impl<R: Net + Drop> Line<R> {
             let Some(address) = addresses.pop() else {
                 return Connected::Failed;
             };
-            tried = Socket::to_origin(&self.net, address, &self.sockets);
+            tried = self.socket_to(address);
         }
         Connected::Failed
     }

@@ -70,7 +70,7 @@ fn calls_over_loopback(rt: HostRuntime) -> Result<(), Fail> {
     let socket = TcpListener::bind(&rt, SocketAddr::from((Ipv4Addr::LOCALHOST, 0)))?;
     let port = socket.local_addr()?.port();
     let mut listen = NetListen::new(socket, idle.sockets()?)?;
-    let mut dial = NetDial::new(alloc, rt, idle.sockets()?);
+    let mut dial = NetDial::new(alloc, rt, Some(idle.sockets()?));
     let mut bytes = [0u8; 16];
     assert!(rt; matches!(listen.accept(), Accepted::NotReady));
     assert_eq!(rt; dial.read(&mut bytes), Got::Failed);
