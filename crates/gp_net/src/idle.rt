@@ -21,7 +21,8 @@ pub struct NetIdle {
     poll: Poll,
     events: Events,
     sockets: Sockets,
-    wait: u64,
+    /// How long the next rest is, at most, in milliseconds.
+    pub(crate) wait: u64,
 }
 
 impl NetIdle {

@@ -1,6 +1,6 @@
 //! A dialer calls a listener over loopback.
-use crate::{NetClock, NetDial, NetIdle, NetLink, NetListen};
-use gp_outside::{Accepted, Clock, Connected, Dial, Got, Idle, Link, Listen, Put};
+use crate::{NetClock, NetDial, NetIdle, NetLink, NetListen, Ports};
+use gp_outside::{Accepted, Clock, Connected, Dial, Got, Idle, Kit, Link, Listen, Put};
 use gp_plain::{Address, Body};
 use mio::net::TcpListener;
 use std::net::{Ipv4Addr, Net, SocketAddr};
@@ -105,5 +105,48 @@ fn calls_over_loopback(rt: HostRuntime) -> Result<(), Fail> {
     };
     assert_eq!(rt; connect(&mut dial, &gone, &mut idle), Connected::Failed);
     assert!(rt; NetClock::new(rt).now() > 0);
+    Ok(())
+}
+
+#[test]
+fn shares_ports_and_wakes(rt: HostRuntime) -> Result<(), Fail> {
+    let alloc = rt.alloc();
+    let ports = Ports::open(alloc, &rt, 0, 0, 2)?;
+    let mut first = ports.kit(alloc, rt, 0)?;
+    let mut second = ports.kit(alloc, rt, 1)?;
+    let to = Address {
+        host: Body::new(alloc, b"127.0.0.1")?,
+        port: ports.client_port()?,
+    };
+    let mut dial = first.dial();
+    assert_eq!(rt; connect(&mut dial, &to, first.idle()), Connected::Done);
+    second.idle().rest();
+    let Accepted::Took(link) = second.clients().accept() else {
+        panic!(rt; "nobody was there")
+    };
+    assert!(rt; matches!(first.clients().accept(), Accepted::NotReady));
+    // The second worker rests longer and longer, until a publisher's session of the first one ends.
+    for _ in 0..4 {
+        second.idle().rest();
+    }
+    assert!(rt; second.idle().wait > 2);
+    first.over(link, None)?;
+    second.idle().rest();
+    assert_eq!(rt; second.idle().wait, 1);
+    // The dialer's other side is gone.
+    let mut bytes = [0u8; 16];
+    assert_eq!(rt; hear(&mut dial, first.idle(), &mut bytes), Got::End);
+    let clock = first.clock();
+    let publish = Address {
+        host: Body::new(alloc, b"127.0.0.1")?,
+        port: ports.publish_port()?,
+    };
+    dial.hang_up();
+    assert_eq!(rt; connect(&mut dial, &publish, first.idle()), Connected::Done);
+    first.idle().rest();
+    let Accepted::Took(link) = first.publishers().accept() else {
+        panic!(rt; "no publisher was there")
+    };
+    first.over(link, Some((dial, clock)))?;
     Ok(())
 }
