@@ -1,10 +1,11 @@
 //! A dialer calls a listener over loopback.
-use crate::{NetClock, NetDial, NetIdle, NetLink, NetListen, Ports};
+use crate::{NetClock, NetDial, NetIdle, NetKit, NetLink, NetListen, Ports};
 use gp_outside::{Accepted, Clock, Connected, Dial, Got, Idle, Kit, Link, Listen, Put};
 use gp_plain::{Address, Body};
 use mio::net::TcpListener;
 use std::net::{Ipv4Addr, Net, SocketAddr};
 use std::test::Fail;
+use std::time;
 
 /// The rests that are waited for one answer, at most.
 const RESTS: u32 = 100;
@@ -62,6 +63,45 @@ fn write_on(link: &mut NetLink, idle: &mut NetIdle) -> Put {
     Put::NotReady
 }
 
+/// Whether a link that was sent nothing isn't ready, and hears a word, and its answer comes back.
+fn speaks<R: Net + Drop>(dial: &mut NetDial<R>, link: &mut NetLink, idle: &mut NetIdle) -> bool {
+    let mut bytes = [0u8; 16];
+    link.read(&mut bytes) == Got::NotReady
+        && link.read(&mut bytes) == Got::NotReady
+        && dial.write(b"ping") == Put::Took(4)
+        && read(link, idle, &mut bytes) == Got::Took(4)
+        && bytes.starts_with(b"ping")
+        && link.write(b"answer") == Put::Took(6)
+        && hear(dial, idle, &mut bytes) == Got::Took(6)
+        && bytes.starts_with(b"answer")
+}
+
+/// Whether a link notices that the other side hung up, and the dialer is in no talk then.
+fn ends<R: Net + Drop>(dial: &mut NetDial<R>, link: &mut NetLink, idle: &mut NetIdle) -> bool {
+    let mut bytes = [0u8; 16];
+    dial.hang_up();
+    read(link, idle, &mut bytes) == Got::End
+        && write_on(link, idle) == Put::Failed
+        && dial.read(&mut bytes) == Got::Failed
+        && dial.write(b"late") == Put::Failed
+}
+
+/// Whether a whole talk goes well.
+fn talks<R: Net + Drop>(
+    dial: &mut NetDial<R>,
+    listen: &mut NetListen,
+    idle: &mut NetIdle,
+    to: &Address,
+) -> bool {
+    if connect(dial, to, idle) != Connected::Done {
+        return false;
+    }
+    match accept(listen, idle) {
+        Some(mut link) => speaks(dial, &mut link, idle) && ends(dial, &mut link, idle),
+        None => false,
+    }
+}
+
 #[test]
 fn calls_over_loopback(rt: HostRuntime) -> Result<(), Fail> {
     let alloc = rt.alloc();
@@ -71,41 +111,39 @@ fn calls_over_loopback(rt: HostRuntime) -> Result<(), Fail> {
     let port = socket.local_addr()?.port();
     let mut listen = NetListen::new(socket, idle.sockets()?)?;
     let mut dial = NetDial::new(alloc, rt, Some(idle.sockets()?));
-    let mut bytes = [0u8; 16];
-    assert!(rt; matches!(listen.accept(), Accepted::NotReady));
-    assert_eq!(rt; dial.read(&mut bytes), Got::Failed);
-    assert_eq!(rt; dial.write(b"early"), Put::Failed);
-    for host in ["127.0.0.1", "localhost"] {
-        let to = Address {
-            host: Body::new(alloc, host.as_bytes())?,
-            port,
-        };
-        assert_eq!(rt; connect(&mut dial, &to, &mut idle), Connected::Done);
-        assert_eq!(rt; dial.connect(&to), Connected::Done);
-        let Some(mut link) = accept(&mut listen, &mut idle) else {
-            panic!(rt; "nobody was there")
-        };
-        assert_eq!(rt; link.read(&mut bytes), Got::NotReady);
-        assert_eq!(rt; link.read(&mut bytes), Got::NotReady);
-        assert_eq!(rt; dial.write(b"ping"), Put::Took(4));
-        assert_eq!(rt; read(&mut link, &mut idle, &mut bytes), Got::Took(4));
-        assert_eq!(rt; &bytes[..4], b"ping".as_slice());
-        assert_eq!(rt; link.write(b"answer"), Put::Took(6));
-        assert_eq!(rt; hear(&mut dial, &mut idle, &mut bytes), Got::Took(6));
-        assert_eq!(rt; &bytes[..6], b"answer".as_slice());
-        dial.hang_up();
-        assert_eq!(rt; read(&mut link, &mut idle, &mut bytes), Got::End);
-        assert_eq!(rt; write_on(&mut link, &mut idle), Put::Failed);
-        assert_eq!(rt; dial.read(&mut bytes), Got::Failed);
-    }
-    drop(listen);
-    let gone = Address {
+    let by_number = Address {
         host: Body::new(alloc, b"127.0.0.1")?,
         port,
     };
-    assert_eq!(rt; connect(&mut dial, &gone, &mut idle), Connected::Failed);
+    let by_name = Address {
+        host: Body::new(alloc, b"localhost")?,
+        port,
+    };
+    assert!(rt; matches!(listen.accept(), Accepted::NotReady));
+    assert!(rt; talks(&mut dial, &mut listen, &mut idle, &by_number));
+    assert!(rt; talks(&mut dial, &mut listen, &mut idle, &by_name));
+    drop(listen);
+    assert_eq!(rt;
+        connect(&mut dial, &by_number, &mut idle),
+        Connected::Failed
+    );
     assert!(rt; NetClock::new(rt).now() > 0);
     Ok(())
+}
+
+/// Whether the rests of a worker grow, and the end of a publisher's session of another worker ends that.
+fn wakes<R: Net + time::Clock + Copy + Drop + Send>(
+    resting: &mut NetKit<R>,
+    other: &mut NetKit<R>,
+    link: NetLink,
+) -> bool {
+    for _ in 0..4 {
+        resting.idle().rest();
+    }
+    let grew = resting.idle().wait > 2;
+    let is_over = other.over(link, None).is_ok();
+    resting.idle().rest();
+    grew && is_over && resting.idle().wait == 1
 }
 
 #[test]
@@ -124,29 +162,6 @@ fn shares_ports_and_wakes(rt: HostRuntime) -> Result<(), Fail> {
     let Accepted::Took(link) = second.clients().accept() else {
         panic!(rt; "nobody was there")
     };
-    assert!(rt; matches!(first.clients().accept(), Accepted::NotReady));
-    // The second worker rests longer and longer, until a publisher's session of the first one ends.
-    for _ in 0..4 {
-        second.idle().rest();
-    }
-    assert!(rt; second.idle().wait > 2);
-    first.over(link, None)?;
-    second.idle().rest();
-    assert_eq!(rt; second.idle().wait, 1);
-    // The dialer's other side is gone.
-    let mut bytes = [0u8; 16];
-    assert_eq!(rt; hear(&mut dial, first.idle(), &mut bytes), Got::End);
-    let clock = first.clock();
-    let publish = Address {
-        host: Body::new(alloc, b"127.0.0.1")?,
-        port: ports.publish_port()?,
-    };
-    dial.hang_up();
-    assert_eq!(rt; connect(&mut dial, &publish, first.idle()), Connected::Done);
-    first.idle().rest();
-    let Accepted::Took(link) = first.publishers().accept() else {
-        panic!(rt; "no publisher was there")
-    };
-    first.over(link, Some((dial, clock)))?;
+    assert!(rt; wakes(&mut second, &mut first, link));
     Ok(())
 }
