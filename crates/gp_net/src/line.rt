@@ -64,7 +64,7 @@ impl<R: Net + Drop> Line<R> {
     /// Waits for a socket, or goes on with the next address that can be tried.
     fn reach(&mut self, first: Option<Socket>, mut addresses: Vec<SocketAddr>) -> Connected {
         let mut tried = first;
-        for _ in 0..ADDRESSES {
+        for _ in 0..=ADDRESSES {
             if let Some(socket) = tried {
                 match socket.connected() {
                     Connected::Done => {
