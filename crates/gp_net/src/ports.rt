@@ -1,0 +1,88 @@
+//! What all workers share: the listening sockets of the two ports, and what wakes the workers.
+ghost use Rattle.std.specs.Prelude.{◌≡◌, IfOk};
+ghost use Rattle.gp_outside.specs.Listens.{IsUnusedListen};
+
+use crate::bells::Bells;
+use crate::idle::NetIdle;
+use crate::kit::NetKit;
+use crate::listen::NetListen;
+use mio::net::TcpListener;
+use std::alloc::Global;
+use std::net::{Ipv4Addr, Ipv6Addr, Net, SocketAddr};
+use std::{io, net, time};
+
+/// The sessions of all workers at once, at most.
+const SESSIONS: usize = 4096;
+
+/// The listening sockets of clients and publishers, and the wakers of the workers.
+#[derive(Drop)]
+pub struct Ports {
+    clients: net::TcpListener,
+    publishers: net::TcpListener,
+    bells: Bells,
+    workers: usize,
+}
+
+/// A listening socket for clients, on all addresses of the machine.
+fn on_all<R: Net>(net: &R, port: u16) -> io::Result<TcpListener> {
+    match TcpListener::bind(net, SocketAddr::from((Ipv6Addr::UNSPECIFIED, port))) {
+        Ok(listener) => Ok(listener),
+        Err(_) => TcpListener::bind(net, SocketAddr::from((Ipv4Addr::UNSPECIFIED, port))),
+    }
+}
+
+/// Another descriptor of a listening socket.
+fn copy_of(listener: &net::TcpListener) -> io::Result<TcpListener> {
+    Ok(TcpListener::from_std(listener.try_clone()?))
+}
+
+impl Ports {
+    /// Listens for clients on all addresses of the machine, and for publishers on its loopback address alone. Port 0
+    /// takes any port that is free.
+    pub fn open<R: Net>(
+        alloc: Global,
+        net: &R,
+        client: u16,
+        publish: u16,
+        workers: u32,
+    ) -> io::Result<Ports> {
+        let workers = workers as usize;
+        let clients = on_all(net, client)?;
+        let publishers = TcpListener::bind(net, SocketAddr::from((Ipv4Addr::LOCALHOST, publish)))?;
+        Ok(Ports {
+            clients: net::TcpListener::from(clients),
+            publishers: net::TcpListener::from(publishers),
+            bells: Bells::new(alloc, workers)?,
+            workers,
+        })
+    }
+
+    /// The port on which clients are listened for.
+    pub fn client_port(&self) -> io::Result<u16> {
+        Ok(self.clients.local_addr()?.port())
+    }
+
+    /// The port on which publishers are listened for.
+    pub fn publish_port(&self) -> io::Result<u16> {
+        Ok(self.publishers.local_addr()?.port())
+    }
+
+    /// The devices of the worker with this number, counted from 0. Two sockets for each session of a worker have a
+    /// place.
+    pub fn kit<R: Net + time::Clock + Copy + Drop + Send>(
+        &self,
+        alloc: Global,
+        system: R,
+        number: u32,
+    ) -> io::Result<NetKit<R>>
+        ensures clients { IfOk result (λ kit. IsUnusedListen kit.clients) }
+        ensures publishers { IfOk result (λ kit. IsUnusedListen kit.publishers) }
+    {
+        let sessions = SESSIONS / self.workers.max(1) + 1;
+        let idle = NetIdle::new(alloc, &system, sessions * 2)?;
+        self.bells.hang(number as usize, idle.waker()?);
+        let clients = NetListen::new(copy_of(&self.clients)?, idle.sockets()?)?;
+        let publishers = NetListen::new(copy_of(&self.publishers)?, idle.sockets()?)?;
+        Ok(NetKit::new(alloc, system, clients, publishers, idle, self.bells.copy()?))
+    }
+}
