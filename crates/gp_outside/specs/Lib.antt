@@ -15,3 +15,5 @@ pub mod Kept
 pub mod MemClocks
 pub mod MemListens
 pub mod MemKits
+pub mod Worlds
+pub mod MemWorlds

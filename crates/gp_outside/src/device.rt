@@ -1,8 +1,12 @@
-ghost use Rattle.std.specs.Prelude.{ℕ, ◌≡◌, ◌<◌, ◌≤◌, List, Option, Some, length};
+ghost use Rattle.std.specs.Prelude.{ℕ, ◌≡◌, ◌<◌, ◌≤◌, List, OnErr, OnOk, Option, Some, length};
 ghost use Rattle.std.specs.Borrow.{Lends, sem};
 ghost use Rattle.gp_outside.specs.Devices.{FailsWith, IsReadOf, IsWrite};
+ghost use Rattle.gp_outside.specs.Worlds.{IsKitMade, IsUnusedKit, with_kit};
 
+use crate::clock::Clock;
+use crate::kit::Kit;
 use gp_plain::Body;
+use std::alloc::AllocError;
 
 /// What a read of a file gave.
 #[derive(Drop)]
@@ -55,36 +59,65 @@ pub trait Out: Drop {
         ensures moved { IsWrite (tells self.old) (tells self.new) from.now result };
 }
 
-/// What lends files and a sink, one at a time. What was lent is afterwards as its borrower left it, and the rest is
-/// as it was.
+/// What the making of a kit did.
+#[derive(Drop)]
+pub enum KitMade<K> {
+    /// A kit that nothing was done with yet.
+    Made(K),
+    /// A fault came.
+    Failed,
+    /// Memory is wanting.
+    NoMemory,
+}
+
+/// What lends files, a sink and a clock, one at a time, makes the kits of workers, and takes them back. What was lent
+/// is afterwards as its borrower left it, and the rest is as it was.
 pub trait World {
     type Files: Files;
 
     type Out: Out;
 
-    ghost files_of: { Self → Self.Files };
+    type Clock: Clock;
 
-    ghost out_of: { Self → Self.Out };
+    type Kit: Kit + Send;
+
+    ghost use Rattle.gp_outside.specs.Worlds.{WorldParts};
+
+    ghost parts: { Self → WorldParts Self.Files Self.Out Self.Clock Self.Kit };
 
     ghost with_files: { Self → Self.Files → Self };
 
     ghost with_out: { Self → Self.Out → Self };
 
+    ghost with_clock: { Self → Self.Clock → Self };
+
     /// Lends the files.
     fn files(&mut self) -> &mut Self::Files
         ensures* lent { sem 𝓛 (Lends Self.row Self.Files.row self.entry result (with_files self.old)) }
-        ensures value { result.now ≡ files_of self.old };
+        ensures value { result.now ≡ (parts self.old).files };
 
     /// Lends the sink.
     fn out(&mut self) -> &mut Self::Out
         ensures* lent { sem 𝓛 (Lends Self.row Self.Out.row self.entry result (with_out self.old)) }
-        ensures value { result.now ≡ out_of self.old };
+        ensures value { result.now ≡ (parts self.old).out };
 
-    ghost files_back: { (world : Self) (files : Self.Files) → files_of (with_files world files) ≡ files };
+    /// Lends the clock.
+    fn clock(&mut self) -> &mut Self::Clock
+        ensures* lent { sem 𝓛 (Lends Self.row Self.Clock.row self.entry result (with_clock self.old)) }
+        ensures value { result.now ≡ (parts self.old).clock };
 
-    ghost files_leave_out: { (world : Self) (files : Self.Files) → out_of (with_files world files) ≡ out_of world };
+    /// Makes the kit of the worker with this number, counted from 0. Its listeners listen on the two ports.
+    fn kit(&mut self, number: u32, client: u16, publish: u16) -> KitMade<Self::Kit>
+        ensures { IsKitMade (λ kit. IsUnusedKit Self.Kit.Listen.tells (Self.Kit.parts kit)) (parts self.old) (parts self.new) result };
 
-    ghost out_back: { (world : Self) (out : Self.Out) → out_of (with_out world out) ≡ out };
+    /// Takes a kit back. Where memory is wanting it takes nothing up.
+    fn over(&mut self, kit: Self::Kit) -> Result<(), AllocError>
+        ensures ok { OnOk result (parts self.new ≡ with_kit (parts self.old) kit) }
+        ensures err { OnErr result (parts self.new ≡ parts self.old) };
 
-    ghost out_leaves_files: { (world : Self) (out : Self.Out) → files_of (with_out world out) ≡ files_of world };
+    ghost files_back: { (world : Self) (files : Self.Files) → parts (with_files world files) ≡ record (parts world) { files = files } };
+
+    ghost out_back: { (world : Self) (out : Self.Out) → parts (with_out world out) ≡ record (parts world) { out = out } };
+
+    ghost clock_back: { (world : Self) (clock : Self.Clock) → parts (with_clock world clock) ≡ record (parts world) { clock = clock } };
 }

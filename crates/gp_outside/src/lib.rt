@@ -26,7 +26,7 @@ mod turn;
 mod world;
 
 pub use clock::Clock;
-pub use device::{FileRead, Files, Out, World, Written};
+pub use device::{FileRead, Files, KitMade, Out, World, Written};
 pub use dial::{Connected, Dial};
 pub use file::MemFiles;
 pub use gate::{FreeGate, FreeIdle, PairGate};
@@ -41,4 +41,4 @@ pub use mem_listen::{Links, MemListen};
 pub use send::write_all;
 pub use sink::MemOut;
 pub use turn::{Turn, Turns};
-pub use world::MemWorld;
+pub use world::{Kits, MemWorld};
