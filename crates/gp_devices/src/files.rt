@@ -1,5 +1,7 @@
 use crate::words::{body, number, push_bytes, turns};
-use gp_outside::{FileRead, Files, MemFiles, MemOut, MemWorld, Out, World, write_all};
+use gp_outside::{
+    FileRead, Files, Kits, MemClock, MemFiles, MemOut, MemWorld, Out, Times, World, write_all,
+};
 use gp_plain::Body;
 use std::alloc::{AllocError, Global};
 
@@ -95,7 +97,9 @@ fn made_world(
     writes: &str,
 ) -> Result<MemWorld, AllocError> {
     let out = MemOut::new(alloc, room, turns(alloc, writes)?)?;
-    Ok(MemWorld::new(file(alloc, content, "-")?, out))
+    let clock = MemClock::new(Times::new(alloc));
+    let kits = Kits::new(alloc);
+    Ok(MemWorld::new(alloc, file(alloc, content, "-")?, out, clock, kits))
 }
 
 fn push_copies(
@@ -108,7 +112,7 @@ fn push_copies(
         let is_whole = copy_twice(world, path);
         text.push_str(if is_whole { "true " } else { "false " })?;
     }
-    push_bytes(alloc, text, world.out.written())
+    push_bytes(alloc, text, world.out().written())
 }
 
 /// `world CONTENT ROOM TURNS PATH..`: whether the file at each path was written twice, and all that was written.

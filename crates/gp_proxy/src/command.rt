@@ -21,7 +21,7 @@ pub fn run<W: World>(
     world: &mut W,
 ) -> Status
     requires { StandsFor registry.old [] }
-    ensures { RunSays (usage_of (map string_bytes words.now)) result (record { content = W.Files.content (W.files_of world.old) (path_of (map string_bytes words.now)); file_faults = W.Files.faults (W.files_of world.old); file_faults_after = W.Files.faults (W.files_of world.new); sink = W.Out.tells (W.out_of world.old); sink_after = W.Out.tells (W.out_of world.new); stands = registry.new }) }
+    ensures { RunSays (usage_of (map string_bytes words.now)) result (record { content = W.Files.content (W.parts world.old).files (path_of (map string_bytes words.now)); file_faults = W.Files.faults (W.parts world.old).files; file_faults_after = W.Files.faults (W.parts world.new).files; sink = W.Out.tells (W.parts world.old).out; sink_after = W.Out.tells (W.parts world.new).out; stands = registry.new }) }
 {
     let path = match path_in(words) {
         Ok(path) => path,

@@ -1,5 +1,5 @@
 use crate::shown::{show_lines, show_status};
-use gp_outside::{MemFiles, MemOut, MemWorld, Turn, Turns};
+use gp_outside::{Kits, MemClock, MemFiles, MemOut, MemWorld, Times, Turn, Turns, World};
 use gp_plain::Body;
 use gp_proxy::{Registry, run};
 use std::alloc::{AllocError, Global};
@@ -124,7 +124,9 @@ impl Case {
         let writes = Turns::from_vec(self.writes);
         let files = MemFiles::new(self.alloc, path, content, reads);
         let out = MemOut::new(self.alloc, ROOM, writes)?;
-        Ok(MemWorld::new(files, out))
+        let clock = MemClock::new(Times::new(self.alloc));
+        let kits = Kits::new(self.alloc);
+        Ok(MemWorld::new(self.alloc, files, out, clock, kits))
     }
 
     /// The status that the case ends with, and the lines that were written.
@@ -136,7 +138,7 @@ impl Case {
         let mut registry = Registry::new(alloc);
         let status = run(alloc, words.as_slice(), &mut registry, &mut world);
         let mut text = show_status(alloc, status)?;
-        show_lines(alloc, &mut text, only.as_str(), world.out.written())?;
+        show_lines(alloc, &mut text, only.as_str(), world.out().written())?;
         Ok(text)
     }
 }
