@@ -17,7 +17,7 @@ use std::time;
 /// The devices of one worker over sockets. It doesn't tell what was handed back to it: it lets that go. The end of a
 /// session without a dialer, which is a publisher's, ends the rest of every worker.
 #[derive(Drop)]
-pub struct NetKit<R: Net + time::Clock + Copy + Drop + Send> {
+pub struct NetKit<R: Net + time::Clock + Copy + Drop> {
     alloc: Global,
     system: R,
     clients: NetListen,
@@ -27,7 +27,7 @@ pub struct NetKit<R: Net + time::Clock + Copy + Drop + Send> {
     bells: Bells,
 }
 
-impl<R: Net + time::Clock + Copy + Drop + Send> Model for NetKit<R> {
+impl<R: Net + time::Clock + Copy + Drop> Model for NetKit<R> {
     ghost use Rattle.std.specs.Prelude.{None};
     ghost use Rattle.gp_outside.specs.Clocks.{ClockTells};
     ghost use Rattle.gp_outside.specs.Dials.{DialTells};
@@ -42,7 +42,7 @@ impl<R: Net + time::Clock + Copy + Drop + Send> Model for NetKit<R> {
     ghost view = { λ k. record { clients = k.clients; publishers = k.publishers; idle = k.idle; gate = k.gate; handed = None } };
 }
 
-impl<R: Net + time::Clock + Copy + Drop + Send> NetKit<R> {
+impl<R: Net + time::Clock + Copy + Drop> NetKit<R> {
     /// A kit of these devices.
     pub(crate) fn new(
         alloc: Global,

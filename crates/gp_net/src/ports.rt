@@ -1,6 +1,6 @@
 //! What all workers share: the listening sockets of the two ports, and what wakes the workers.
-ghost use Rattle.std.specs.Prelude.{◌≡◌, IfOk};
-ghost use Rattle.gp_outside.specs.Listens.{IsUnusedListen};
+ghost use Rattle.std.specs.Prelude.{IfOk};
+ghost use Rattle.gp_outside.specs.Worlds.{IsUnusedKit};
 
 use crate::bells::Bells;
 use crate::idle::NetIdle;
@@ -11,8 +11,11 @@ use std::alloc::Global;
 use std::net::{Ipv4Addr, Ipv6Addr, Net, SocketAddr};
 use std::{io, net, time};
 
-/// The sessions of all workers at once, at most.
-const SESSIONS: usize = 4096;
+/// The sockets that one worker watches, at most: two for each of 4,096 sessions, and its two listeners.
+const SOCKETS: usize = 8194;
+
+/// The workers, at most.
+const WORKERS: usize = 16;
 
 /// The listening sockets of clients and publishers, and the wakers of the workers.
 #[derive(Drop)]
@@ -20,7 +23,6 @@ pub struct Ports {
     clients: net::TcpListener,
     publishers: net::TcpListener,
     bells: Bells,
-    workers: usize,
 }
 
 /// A listening socket for clients, on all addresses of the machine.
@@ -39,21 +41,13 @@ fn copy_of(listener: &net::TcpListener) -> io::Result<TcpListener> {
 impl Ports {
     /// Listens for clients on all addresses of the machine, and for publishers on its loopback address alone. Port 0
     /// takes any port that is free.
-    pub fn open<R: Net>(
-        alloc: Global,
-        net: &R,
-        client: u16,
-        publish: u16,
-        workers: u32,
-    ) -> io::Result<Ports> {
-        let workers = workers as usize;
+    pub fn open<R: Net>(alloc: Global, net: &R, client: u16, publish: u16) -> io::Result<Ports> {
         let clients = on_all(net, client)?;
         let publishers = TcpListener::bind(net, SocketAddr::from((Ipv4Addr::LOCALHOST, publish)))?;
         Ok(Ports {
             clients: net::TcpListener::from(clients),
             publishers: net::TcpListener::from(publishers),
-            bells: Bells::new(alloc, workers)?,
-            workers,
+            bells: Bells::new(alloc, WORKERS)?,
         })
     }
 
@@ -67,19 +61,17 @@ impl Ports {
         Ok(self.publishers.local_addr()?.port())
     }
 
-    /// The devices of the worker with this number, counted from 0. Two sockets for each session of a worker have a
-    /// place.
-    pub fn kit<R: Net + time::Clock + Copy + Drop + Send>(
+    /// The devices of the worker with this number, counted from 0. One with a number of 16 or more isn't woken by the
+    /// others.
+    pub fn kit<R: Net + time::Clock + Copy + Drop>(
         &self,
         alloc: Global,
         system: R,
         number: u32,
     ) -> io::Result<NetKit<R>>
-        ensures clients { IfOk result (λ kit. IsUnusedListen kit.clients) }
-        ensures publishers { IfOk result (λ kit. IsUnusedListen kit.publishers) }
+        ensures { IfOk result (λ kit. IsUnusedKit (λ l. l) kit) }
     {
-        let sessions = SESSIONS / self.workers.max(1) + 1;
-        let idle = NetIdle::new(alloc, &system, sessions * 2)?;
+        let idle = NetIdle::new(alloc, &system, SOCKETS)?;
         self.bells.hang(number as usize, idle.waker()?);
         let clients = NetListen::new(copy_of(&self.clients)?, idle.sockets()?)?;
         let publishers = NetListen::new(copy_of(&self.publishers)?, idle.sockets()?)?;

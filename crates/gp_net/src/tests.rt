@@ -149,7 +149,7 @@ fn wakes<R: Net + time::Clock + Copy + Drop + Send>(
 #[test]
 fn shares_ports_and_wakes(rt: HostRuntime) -> Result<(), Fail> {
     let alloc = rt.alloc();
-    let ports = Ports::open(alloc, &rt, 0, 0, 2)?;
+    let ports = Ports::open(alloc, &rt, 0, 0)?;
     let mut first = ports.kit(alloc, rt, 0)?;
     let mut second = ports.kit(alloc, rt, 1)?;
     let to = Address {

@@ -1,6 +1,6 @@
 use Rattle.std.proofs.Common.{◌-◌, length}
 use Rattle.std.specs.Io.KnownBytes.{Consumes}
-use Rattle.pushpin.proofs.devices.read_all.Given as goal
+use Rattle.gp_net.proofs.files.read_all.Given as goal
 
 abbrev pub invariant-loop-part : goal.invariant-loop-part
 invariant-loop-part g l = Consumes (g.R.Read.remaining l.fn.reader) (g.R.Read.remaining l.reader) l.content.items
