@@ -1,16 +1,15 @@
-//! The program: `run` on the words of the command line, over the files and the standard output of the system.
+//! The program: `run` on the words of the command line, over the devices of the system.
 //!
-//! It answers `--help` and `--version` itself. It stands on `gp_proxy`, and on adapters that tell no bytes.
+//! It answers `--help` and `--version` itself. It stands on `gp_proxy` and on the devices of `gp_net`, which tell no bytes.
 #![tactic(auto)]
 
 mod asked;
-mod devices;
 mod ends;
 mod texts;
 
 use asked::question;
-use devices::{over_system, sink};
 use ends::end;
+use gp_net::{NetOut, NetWorld};
 use gp_proxy::{Registry, Status, run};
 use std::process::ExitCode;
 use std::{env, io};
@@ -39,11 +38,11 @@ fn play(rt: &HostRuntime) -> Status {
         };
     }
     let mut registry = Registry::new(rt.alloc());
-    let mut world = over_system(rt, io::writer(rt));
+    let mut world = NetWorld::new(rt.alloc(), *rt, io::writer(rt));
     run(rt.alloc(), words.as_slice(), &mut registry, &mut world)
 }
 
 fn main(rt: HostRuntime) -> ExitCode {
     let status = play(&rt);
-    ExitCode::from(end(rt.alloc(), status, &mut sink(rt.stderr())))
+    ExitCode::from(end(rt.alloc(), status, &mut NetOut::new(rt.stderr())))
 }
