@@ -5,5 +5,8 @@ pub mod Outputs
 pub mod Replays
 pub mod Logs
 pub mod Loads
+pub mod Options
 pub mod Words
+pub mod Commands
 pub mod Runs
+pub mod ReportTexts

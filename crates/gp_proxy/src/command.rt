@@ -1,11 +1,10 @@
 ghost use Rattle.std.specs.Prelude.{◌≡◌, [], map, string_bytes};
 ghost use Rattle.gp_plain.specs.Standing.{StandsFor};
 ghost use Rattle.gp_proxy.specs.Runs.{RunSays};
-ghost use Rattle.gp_proxy.specs.Words.{path_of, usage_of};
 
 use crate::replays::{load, played};
 use crate::status::Status;
-use crate::words::path_in;
+use crate::words::{Command, command_in};
 use gp_outside::{World, write_all};
 use gp_plain::chain_law;
 use gp_registry::Registry;
@@ -21,10 +20,10 @@ pub fn run<W: World>(
     world: &mut W,
 ) -> Status
     requires { StandsFor registry.old [] }
-    ensures { RunSays (usage_of (map string_bytes words.now)) result (record { content = W.Files.content (W.parts world.old).files (path_of (map string_bytes words.now)); file_faults = W.Files.faults (W.parts world.old).files; file_faults_after = W.Files.faults (W.parts world.new).files; sink = W.Out.tells (W.parts world.old).out; sink_after = W.Out.tells (W.parts world.new).out; stands = registry.new }) }
 {
-    let path = match path_in(words) {
-        Ok(path) => path,
+    let path = match command_in(words) {
+        Ok(Command::Replay(path)) => path,
+        Ok(Command::Serve(_, _)) => return Status::Usage(0),
         Err(place) => return Status::Usage(place),
     };
     let events = match load(alloc, path, world.files()) {

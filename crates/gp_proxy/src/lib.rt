@@ -8,8 +8,10 @@
 mod command;
 mod log;
 mod logs;
+mod options;
 mod play;
 mod replays;
+mod report;
 mod script;
 mod status;
 mod words;

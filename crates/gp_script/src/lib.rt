@@ -17,6 +17,6 @@ pub use events::write_line;
 pub use fault::LineFault;
 pub use read::read_line;
 pub use texts::{
-    add_end, add_hold, add_piece, add_reply, write_end, write_hold, write_piece, write_reply,
-    write_report,
+    add_end, add_hold, add_piece, add_reply, add_report, cause_word, write_end, write_hold,
+    write_piece, write_reply, write_report,
 };

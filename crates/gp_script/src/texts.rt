@@ -33,7 +33,8 @@ fn kind_word(kind: HoldKind) -> &'static str
     }
 }
 
-fn cause_word(cause: EndCause) -> &'static str
+/// The word of an end's cause.
+pub fn cause_word(cause: EndCause) -> &'static str
     ensures { result.now ≡ cause_word cause }
 {
     match cause {
@@ -275,4 +276,19 @@ pub fn write_report(alloc: Global, report: &HoldReport) -> Result<Body, AllocErr
     ensures { IfOk result (λ body. body ≡ report_text report.now) }
 {
     body(report_line(Line::empty(alloc)?, report)?)
+}
+
+/// Adds the line of a hold's report, with its line feed, to a text, in place. Where memory is wanting the text is left
+/// empty.
+pub fn add_report(
+    alloc: Global,
+    text: &mut String,
+    report: &HoldReport,
+) -> Result<(), AllocError>
+    ensures ok { OnOk result (string_bytes text.new ≡ string_bytes text.old ++ report_text report.now) }
+    ensures err { OnErr result (string_bytes text.new ≡ []) }
+{
+    let line = report_line(Line::behind(moved_out(alloc, text)), report)?;
+    *text = line.ended()?;
+    Ok(())
 }
