@@ -42,9 +42,9 @@ pub trait Kit: Drop {
 
     type Clock: Clock + Send;
 
-    type Idle: Idle;
+    type Idle: Idle + Send;
 
-    type Gate: Gate;
+    type Gate: Gate + Send;
 
     ghost use Rattle.gp_outside.specs.Kits.{KitParts};
 
