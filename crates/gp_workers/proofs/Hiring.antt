@@ -1,11 +1,13 @@
 -- A new worker begins with its books in order.
-use Rattle.std.proofs.Common.{◌≡◌, ℕ, List, [], ◌++◌, append-nil, length, sym, refl, ap, ◌∙◌, arith, subst, Bool, true, MatchBool, Option, Some, None}
+use Rattle.std.proofs.Common.{◌≡◌, ℕ, ◌+◌, ◌<◌, inl, List, [], ◌++◌, append-nil, length, sym, refl, ap, ◌∙◌, arith, subst, Bool, true, MatchBool, Option, Some, None}
 use Rattle.std.specs.Option.{option_map}
 use Rattle.std.proofs.lemmas.List.Elements.{All-nil}
 use Rattle.atomic_table.specs.Seated.{TableId}
+use Rattle.gp_plain.specs.declared.event.Entry.{Entry}
 use Rattle.gp_workers.specs.Makers.{Means}
 use Rattle.gp_workers.specs.Books.{Books, Gave}
-use Rattle.gp_workers.specs.Works.{Begins, Holds, IsOpen, Stands, Works}
+use Rattle.gp_workers.specs.Works.{Holds, IsJoined, IsOpen, Ranged, Stands, Works, reported_in, running_in, stands_in}
+use Rattle.gp_workers.proofs.Joining.{of_range}
 use Rattle.gp_workers.specs.Hires.{IsNew}
 use Rattle.gp_workers.specs.declared.maker.Finished.{Finished}
 use Rattle.gp_workers.proofs.Working.{false-ne-true}
@@ -29,7 +31,7 @@ module _ {S L D C : Type 0} where
         enough = omega arith;
       }
 
-  pub new_works : (means : Means L D C) (limit : ℕ) (turn claims : TableId) (now : Books L D C) → IsNew turn claims now → Works {S = S} means limit now now []
+  pub new_works : (means : Means L D C) (limit : ℕ) (turn claims : TableId) (now : Books L D C) → IsNew turn claims now → Works {S = S} means turn limit now now []
   new_works means limit turn claims now n = record {
     told = record {
       gave = [];
@@ -39,8 +41,8 @@ module _ {S L D C : Type 0} where
       reports = sym (append-nil now.reports);
       handed = handed_none now.handed;
       full = subst (λ (is : Bool). MatchBool is (now.no_memory ≡ true) (◌≡◌ {A = List (Gave L D C)} [] [])) (sym n.full) refl;
-      holds = All-nil (Holds means);
-      seen = All-nil (λ (one : Gave L D C). Begins one.over.outcome.pass.seen now.pass.seen);
+      holds = All-nil (Holds means turn);
+      joined = All-nil (λ (one : Gave L D C). IsJoined one.over.outcome.pass now.pass);
     };
     parted = record { number = refl; parts = omega arith };
     listened = record { clients = omega arith; publishers = omega arith; failed = λ failed. absurd (false-ne-true (sym n.failed ∙ failed)) };
@@ -49,5 +51,12 @@ module _ {S L D C : Type 0} where
       few = omega arith;
       memory = λ some. absurd (omega arith);
       each = λ x below. rw (n.taken, n.reports) refl;
+    };
+    ranged = record {
+      apart = λ x. rw n.reports (omega arith);
+      covers = λ x has. inl (omega (arith, of_range x now.pass));
+      more = [];
+      grows = sym (append-nil now.pass.seen);
+      mine = All-nil (λ (e : Entry). 0 < stands_in e.who now.pass.number now.pass.spare → 0 < running_in {S = S} e.who [] + reported_in e.who now.reports);
     };
   }

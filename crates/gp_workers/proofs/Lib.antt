@@ -1,4 +1,5 @@
 pub mod Claiming
+pub mod Joining
 pub mod Working
 pub mod Entering
 pub mod Moving
