@@ -226,7 +226,7 @@ module _ {S L D C : Type 0} (ended : S → Type 0) (may_give : S → Finished L 
               let h = hit_above x claim limit below above in
               rw took (omega arith);
         };
-        ranged = w.ranged;
+        ranged = record { apart = w.ranged.apart; covers = w.ranged.covers; more = w.ranged.more; grows = w.ranged.grows; mine = w.ranged.mine };
       }
 
   pub begun_stands : (b n : Books L D C) (mc : ClaimView) (rs zs : List (Running S)) (claim : ℕ) → mc ≡ with_claim b.claimer claim → b.claimer.note ≤ claim → length rs + 1 ≤ b.spare → numbers < b.pass.spare

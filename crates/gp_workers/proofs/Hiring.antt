@@ -4,11 +4,12 @@ use Rattle.std.specs.Option.{option_map}
 use Rattle.std.proofs.lemmas.List.Elements.{All-nil}
 use Rattle.atomic_table.specs.Seated.{TableId}
 use Rattle.gp_plain.specs.declared.event.Entry.{Entry}
+use Rattle.gp_workers.specs.Claims.{one_share}
 use Rattle.gp_workers.specs.Makers.{Means}
 use Rattle.gp_workers.specs.Books.{Books, Gave}
-use Rattle.gp_workers.specs.Works.{Holds, IsJoined, IsOpen, Ranged, Stands, Works, reported_in, running_in, stands_in}
+use Rattle.gp_workers.specs.Works.{HasStopped, Holds, IsJoined, IsOpen, Ranged, Stands, Works, reported_in, running_in, stands_in}
 use Rattle.gp_workers.proofs.Joining.{of_range}
-use Rattle.gp_workers.specs.Hires.{IsNew}
+use Rattle.gp_workers.specs.Hires.{HasServed, IsNew}
 use Rattle.gp_workers.specs.declared.maker.Finished.{Finished}
 use Rattle.gp_workers.proofs.Working.{false-ne-true}
 
@@ -60,3 +61,20 @@ module _ {S L D C : Type 0} where
       mine = All-nil (λ (e : Entry). 0 < stands_in e.who now.pass.number now.pass.spare → 0 < running_in {S = S} e.who [] + reported_in e.who now.reports);
     };
   }
+
+  -- where no session runs any more, what was done is told without them
+  pub served : (means : Means L D C) (turn claims : TableId) (limit : ℕ) (start now : Books L D C) (running : List (Running S))
+      → now.pass.turn ≡ turn → now.claimer.table ≡ claims → now.claimer.parts ≡ one_share → running ≡ [] → HasStopped limit now → Works means turn limit start now running → HasServed means turn claims limit start now
+  served means turn claims limit start now running of_turn of_claims share none stopped w =
+      let v : Works means turn limit start now [] = subst (λ (rs : List (Running S)). Works means turn limit start now rs) none w in
+      let cl = v.claimed in let r = v.ranged in record {
+        of_turn = of_turn;
+        of_claims = of_claims;
+        share = share;
+        told = v.told;
+        parted = v.parted;
+        listened = v.listened;
+        claimed = record { lost = cl.lost; few = cl.few; memory = cl.memory; each = cl.each };
+        ranged = record { apart = r.apart; covers = r.covers; more = r.more; grows = r.grows; mine = r.mine };
+        stopped = stopped;
+      }

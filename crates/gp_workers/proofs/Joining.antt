@@ -1,5 +1,5 @@
 -- Passes that are joined, and the numbers that sessions were handed.
-use Rattle.std.proofs.Common.{◌≡◌, ℕ, zero, suc, ◌+◌, ◌-◌, ◌<◌, ◌≤◌, ◌⊎◌, inl, inr, List, [], ◌∷◌, ◌++◌, append_assoc, append-nil, length, get_or, sym, refl, ap, ◌∙◌, ⊎_elim, arith}
+use Rattle.std.proofs.Common.{◌≡◌, ℕ, zero, suc, ◌+◌, ◌-◌, ◌<◌, ◌≤◌, ◌⊎◌, inl, inr, List, [], ◌∷◌, ◌++◌, append_assoc, append-nil, length, get_or, sym, refl, ap, subst, ◌∙◌, ⊎_elim, arith}
 use Rattle.std.specs.List.{All}
 use Rattle.std.proofs.lemmas.Bool.Decides.{nat_tests}
 use Rattle.std.proofs.lemmas.List.{append_cancel_left}
@@ -47,8 +47,12 @@ joined_gone b g n is on =
       past = λ x has. rw past (omega (arith, times-append x b.past (ranges_of g)));
     }
 
+none_by : (a b : ℕ) → (0 < a → 0 < b) → b ≡ 0 → a ≡ 0
+none_by zero b h e = refl
+none_by (suc a) b h e = absurd (let t = h (omega arith) in omega arith)
+
 none_gone : (x : ℕ) (gone b : HubView) → (0 < times_in x (ranges_of gone) → 0 < times_in x b.past) → times_in x (ranges_of b) ≡ 0 → times_in x (ranges_of gone) ≡ 0
-none_gone x gone b past other = omega (arith, of_range x b)
+none_gone x gone b past other = none_by (times_in x (ranges_of gone)) (times_in x b.past) past (omega (arith, of_range x b))
 
 pub joined_later : (gone b n : HubView) → IsJoined gone b → HasGrown b n → IsJoined gone n
 joined_later gone b n j grown =
@@ -90,6 +94,17 @@ rejoined_goes_on p count seen le a b = record {
       let other = (rw (← same) at b.others) k d lt in
       omega (arith, times-split (who_of (get_or a.more k d)) p.number p.spare count p.past le);
 }
+
+pub rejoined : (p q g n : HubView) (count : ℕ) → count ≤ p.spare → q ≡ shortened p count → g ≡ split_off p count → n ≡ with_joined q g → GoesOnFrom q n.seen → GoesOnFrom g n.seen
+    → GoesOnFrom p n.seen × ((x : ℕ) → times_in x (ranges_of n) ≡ times_in x (ranges_of p)) × ((x : ℕ) → times_in x p.past ≤ times_in x n.past)
+rejoined p q g n count le cut off is a b =
+    let whole : n ≡ with_joined (shortened p count) (split_off p count) = is ∙ (ap (λ (v : HubView). with_joined v g) cut ∙ ap (λ (v : HubView). with_joined (shortened p count) v) off) in (
+      rejoined_goes_on p count n.seen le (subst (λ (v : HubView). GoesOnFrom v n.seen) cut a) (subst (λ (v : HubView). GoesOnFrom v n.seen) off b),
+      λ x. ap (λ (v : HubView). times_in x (ranges_of v)) whole ∙ rejoined_ranges x p.number p.spare count p.past le,
+      λ x.
+          let past : times_in x n.past ≡ times_in x (p.past ++ (range (p.number + (p.spare - count)) count ∷ [])) = ap (λ (v : HubView). times_in x v.past) whole in
+          omega (arith, times-append x p.past (range (p.number + (p.spare - count)) count ∷ [])),
+    )
 
 module _ {L D C : Type 0} where
   -- what is seen further is of no number of the worker but those of sessions that run

@@ -4,4 +4,5 @@ pub mod Working
 pub mod Entering
 pub mod Moving
 pub mod Hiring
+pub mod Furnishing
 pub mod Taking

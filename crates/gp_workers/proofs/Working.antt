@@ -89,6 +89,9 @@ module _ {S : Type 0} where
       let b = sum_by-set f rs i r o lt in
       let c : f (get_or (set rs i r) i d) ≡ f r = ap f (get_or-set_same rs i r d lt) in omega arith
 
+  same_set : (f : Running S → ℕ) (rs : List (Running S)) (i : ℕ) (r o : Running S) → i < length rs → f r ≡ f (get_or rs i o) → sum_by f (set rs i r) ≡ sum_by f rs
+  same_set f rs i r o lt same = let b = sum_by-set f rs i r o lt in omega arith
+
 module _ {S L D C : Type 0} where
   ranged_finished : (means : Means L D C) (turn : TableId) (start b n : Books L D C) (rs zs : List (Running S)) (claim number : ℕ) (over : Finished L D C)
       → ((x : ℕ) → running_in x zs + stands_in x number numbers ≡ running_in x rs) → IsGiven means turn claim number over → HasFinished (record { claim = claim; over = over }) b n
@@ -157,9 +160,6 @@ module _ {S L D C : Type 0} where
         };
         ranged = ranged_finished means turn start b n rs zs r.claim r.number over out given f w.ranged;
       }
-
-  same_set : (f : Running S → ℕ) (rs : List (Running S)) (i : ℕ) (r o : Running S) → i < length rs → f r ≡ f (get_or rs i o) → sum_by f (set rs i r) ≡ sum_by f rs
-  same_set f rs i r o lt same = let b = sum_by-set f rs i r o lt in omega arith
 
   -- a poll that brought nothing leaves the claim and the number of its session
   pub works_polled : (means : Means L D C) (turn : TableId) (limit : ℕ) (start b : Books L D C) (rs zs : List (Running S)) (i : ℕ) (r o : Running S)
