@@ -11,6 +11,7 @@ use Rattle.gp_workers.specs.Works.{HasStopped, Holds, IsJoined, IsOpen, Ranged, 
 use Rattle.gp_workers.proofs.Joining.{of_range}
 use Rattle.gp_workers.specs.Hires.{HasServed, IsNew}
 use Rattle.gp_workers.specs.declared.maker.Finished.{Finished}
+use Rattle.gp_workers.specs.declared.worker.Running.{Running}
 use Rattle.gp_workers.proofs.Working.{false-ne-true}
 
 handed_none : {A : Type 0} (told : Option (List A)) → told ≡ option_map (λ (all : List A). all ++ []) told

@@ -5,4 +5,5 @@ pub mod Entering
 pub mod Moving
 pub mod Hiring
 pub mod Furnishing
+pub mod Dismissing
 pub mod Taking

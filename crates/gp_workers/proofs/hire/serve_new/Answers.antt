@@ -11,4 +11,4 @@ returns g c =
     let done = c.serve.ensures.done in
     served means c.args.crew.now.hub.now c.args.crew.now.claims.now c.args.crew.now.limit start (told c.serve.new.worker) c.serve.new.running.items
     stands.of_turn stands.of_claims stands.parts done.0 done.1
-    (c.serve.ensures.works start (rw c.new-running.ensures.items (new_works means c.args.crew.now.limit c.args.crew.now.hub.now c.args.crew.now.claims.now start c.requires)))
+    (c.serve.ensures.works start (rw c.new-running.ensures.items (new_works means c.args.crew.now.limit c.args.crew.now.hub.now c.args.crew.now.claims.now start c.requires.new)))
