@@ -51,7 +51,7 @@ none_by : (a b : ℕ) → (0 < a → 0 < b) → b ≡ 0 → a ≡ 0
 none_by zero b h e = refl
 none_by (suc a) b h e = absurd (let t = h (omega arith) in omega arith)
 
-none_gone : (x : ℕ) (gone b : HubView) → (0 < times_in x (ranges_of gone) → 0 < times_in x b.past) → times_in x (ranges_of b) ≡ 0 → times_in x (ranges_of gone) ≡ 0
+pub none_gone : (x : ℕ) (gone b : HubView) → (0 < times_in x (ranges_of gone) → 0 < times_in x b.past) → times_in x (ranges_of b) ≡ 0 → times_in x (ranges_of gone) ≡ 0
 none_gone x gone b past other = none_by (times_in x (ranges_of gone)) (times_in x b.past) past (omega (arith, of_range x b))
 
 pub joined_later : (gone b n : HubView) → IsJoined gone b → HasGrown b n → IsJoined gone n

@@ -6,4 +6,6 @@ pub mod Moving
 pub mod Hiring
 pub mod Furnishing
 pub mod Dismissing
+pub mod Owning
+pub mod Shifting
 pub mod Taking

@@ -1,10 +1,9 @@
 -- What workers did, each in its thread, and what became of the pass that they shared.
-use Rattle.std.specs.Prelude.{ℕ, ◌≡◌, ◌≢◌, ◌+◌, ◌<◌, ◌≤◌, ◌⊎◌, true, List, ◌++◌, All, length, map, sum_by, option_map}
+use Rattle.std.specs.Prelude.{ℕ, ◌≡◌, ◌+◌, ◌<◌, ◌≤◌, ◌⊎◌, true, List, ◌++◌, All, length, map, sum_by, option_map}
 use Rattle.atomic_table.specs.Seated.{TableId}
 use Rattle.gp_plain.specs.declared.event.Entry.{Entry}
 use Rattle.gp_turn.specs.Passes.{range}
 use Rattle.gp_hub.specs.Passes.{HubView}
-use Rattle.gp_hub.specs.declared.outcome.SessionEnd.TheVariants.{Worn}
 use Rattle.gp_outside.specs.Counts.{Rose}
 use Rattle.gp_outside.specs.Kits.{KitParts}
 use Rattle.gp_outside.specs.Listens.{ListenTells}
@@ -39,10 +38,9 @@ module _ {K L D C : Type 0} where
   sessions_in n shift = reported_in n shift.report.sessions.items
 
 module _ {L D C : Type 0} where
-  -- The holds of a session that didn't find the hub worn are reported as they stand in the joined history: each hold of
-  -- the numbers that it was handed, and no other.
+  -- the holds of a session are reported as they stand in a history: each hold of the numbers that it was handed, and no other
   abbrev pub HoldsStand : List Entry → Gave L D C → Type 0
-  HoldsStand joined one = one.over.outcome.end ≢ Worn → one.over.outcome.holds.items ≡ map hold_report (owned (range one.over.outcome.pass.number numbers) joined)
+  HoldsStand history one = one.over.outcome.holds.items ≡ map hold_report (owned (range one.over.outcome.pass.number numbers) history)
 
 module _ {K Ln I G L D C : Type 0} where
   pub record HasShifted (parts : K → KitParts Ln I G L D C) (tells : Ln → ListenTells) (means : Means L D C) (turn : TableId) (limit next : ℕ) (joined : HubView) (shift : Shift K L D C) : Type 0 where
@@ -54,6 +52,7 @@ module _ {K Ln I G L D C : Type 0} where
     -- what the maker says holds of each session, on a history that begins the joined one and holds all entries of its numbers
     pub holds : All (Holds means turn) (sessions_of shift)
     pub joined : All (λ (one : Gave L D C). IsJoined one.over.outcome.pass joined) (sessions_of shift)
+    -- the holds of each session are reported as they stand in the joined history
     pub stand : All (HoldsStand joined.seen) (sessions_of shift)
     -- at most one claim was dropped, for want of memory
     pub few : length shift.dropped ≤ 1

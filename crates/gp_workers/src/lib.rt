@@ -26,4 +26,4 @@ mod worker;
 pub use driven::Driven;
 pub use maker::{Finished, Maker, Over};
 pub use report::{SessionReport, SessionReports, WorkerReport};
-pub(crate) use staff::serve_all;
+pub use staff::work;
