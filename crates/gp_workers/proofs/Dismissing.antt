@@ -25,11 +25,11 @@ kept_joined start b g n is on k =
     record {
       grown = grown_later start b n
           (λ x.
-              let past = k.grown.past x in
-              let same : times_in x (ranges_of start) ≡ times_in x (ranges_of (record b { past = start.past })) = rw (k.number, k.spare) refl in
-              let was = of_range x (record b { past = start.past }) in
-              let is = of_range x b in
-              omega arith)
+          let past = k.grown.past x in
+          let same : times_in x (ranges_of start) ≡ times_in x (ranges_of (record b { past = start.past })) = rw (k.number, k.spare) refl in
+          let was = of_range x (record b { past = start.past }) in
+          let is = of_range x b in
+          omega arith)
           k.grown step;
       spare = spare ∙ k.spare;
       number = number ∙ k.number;

@@ -71,12 +71,12 @@ module _ {S L D C : Type 0} where
             let was = of_range x b.pass in
             let is = of_range x (shortened b.pass numbers) in
             rw pass (⊎_elim
-                (λ (t : 0 < times_in x (ranges_of b.pass)). ⊎_elim
-                (λ (u : 0 < times_in x (ranges_of (shortened b.pass numbers))). inl u)
-                (λ (u : 0 < stands_in x first numbers). inr (omega arith))
-                (some_of (times_in x (ranges_of (shortened b.pass numbers))) (stands_in x first numbers) (omega arith)))
-                (λ (t : 0 < running_in x rs). inr (omega arith))
-                (r.covers x has));
+            (λ (t : 0 < times_in x (ranges_of b.pass)). ⊎_elim
+            (λ (u : 0 < times_in x (ranges_of (shortened b.pass numbers))). inl u)
+            (λ (u : 0 < stands_in x first numbers). inr (omega arith))
+            (some_of (times_in x (ranges_of (shortened b.pass numbers))) (stands_in x first numbers) (omega arith)))
+            (λ (t : 0 < running_in x rs). inr (omega arith))
+            (r.covers x has));
         more = mine.0;
         grows = ap (λ (q : HubView). q.seen) pass ∙ mine.1;
         mine = rw reports mine.2;
@@ -94,9 +94,9 @@ module _ {S L D C : Type 0} where
             rw reports (omega arith);
         covers = λ x has.
             let s = same x in let ranges = refused.ranges x in ⊎_elim
-                (λ (t : 0 < times_in x (ranges_of b.pass)). inl (omega arith))
-                (λ (t : 0 < running_in x rs). inr (omega arith))
-                (r.covers x has);
+            (λ (t : 0 < times_in x (ranges_of b.pass)). inl (omega arith))
+            (λ (t : 0 < running_in x rs). inr (omega arith))
+            (r.covers x has);
         more = mine.0;
         grows = mine.1;
         mine = rw reports mine.2;

@@ -114,13 +114,13 @@ module _ {L D C : Type 0} where
     r.more ++ on.more,
     on.is ∙ (ap (λ (l : List Entry). l ++ on.more) r.grows ∙ append_assoc start.pass.seen r.more on.more),
     All-append (λ (e : Entry). 0 < stands_in e.who start.pass.number start.pass.spare → 0 < now e.who) r.more on.more
-    (All-weaker (λ (e : Entry). 0 < stands_in e.who start.pass.number start.pass.spare → 0 < running e.who + reported_in e.who b.reports) (λ (e : Entry). 0 < stands_in e.who start.pass.number start.pass.spare → 0 < now e.who) (λ e was has. less e.who (was has)) r.more r.mine)
-    (All-weaker (λ (e : Entry). times_in e.who (ranges_of b.pass) ≡ 0) (λ (e : Entry). 0 < stands_in e.who start.pass.number start.pass.spare → 0 < now e.who)
-    (λ e other has. ⊎_elim
-    (λ (t : 0 < times_in e.who (ranges_of b.pass)). absurd (omega arith))
-    (λ (t : 0 < running e.who). less e.who (omega arith))
-    (r.covers e.who has))
-    on.more on.others),
+        (All-weaker (λ (e : Entry). 0 < stands_in e.who start.pass.number start.pass.spare → 0 < running e.who + reported_in e.who b.reports) (λ (e : Entry). 0 < stands_in e.who start.pass.number start.pass.spare → 0 < now e.who) (λ e was has. less e.who (was has)) r.more r.mine)
+        (All-weaker (λ (e : Entry). times_in e.who (ranges_of b.pass) ≡ 0) (λ (e : Entry). 0 < stands_in e.who start.pass.number start.pass.spare → 0 < now e.who)
+        (λ e other has. ⊎_elim
+        (λ (t : 0 < times_in e.who (ranges_of b.pass)). absurd (omega arith))
+        (λ (t : 0 < running e.who). less e.who (omega arith))
+        (r.covers e.who has))
+        on.more on.others),
   )
 
   pub ranged_kept : (start b n : Books L D C) (running now : ℕ → ℕ) → n.pass ≡ b.pass → n.reports ≡ b.reports → ((x : ℕ) → now x ≡ running x) → Ranged start b running → Ranged start n now

@@ -1,7 +1,7 @@
 -- What the workers did, from what each did.
-use Rattle.std.proofs.Common.{◌≡◌, ℕ, zero, suc, ◌+◌, ◌*◌, ◌<◌, ◌≤◌, ◌⊎◌, inl, inr, Bool, true, false, MatchBool, List, [], ◌∷◌, ◌++◌, append_assoc, map, length, get_or, refl, sym, ap, subst, ◌∙◌, ⊎_elim, arith}
+use Rattle.std.proofs.Common.{◌≡◌, ℕ, zero, suc, ◌+◌, ◌*◌, ◌<◌, ◌≤◌, ◌⊎◌, inl, inr, Bool, true, false, MatchBool, List, [], ◌∷◌, ◌++◌, append_assoc, append-nil, map, take, drop, length, get_or, refl, sym, ap, subst, ◌∙◌, ⊎_elim, arith}
 use Rattle.std.specs.List.{All, sum_by}
-use Rattle.std.proofs.lemmas.List.{append_cancel_left}
+use Rattle.std.proofs.lemmas.List.{append_cancel_left, drop_all, take_all}
 use Rattle.std.proofs.lemmas.List.Elements.{All-nil, All-cons, All-head, All-tail, All-append, All-weaker}
 use Rattle.std.proofs.lemmas.List.Sums.{sum_by-cons}
 use Rattle.atomic_table.specs.Seated.{TableId}
@@ -56,6 +56,13 @@ module _ {L D C : Type 0} where
   all_stand means turn final gave given joined = λ k d lt. stands_later means turn (get_or gave k d) final (given k d lt) (joined k d lt)
 
 module _ {A : Type 0} where
+  -- a slice of a whole list was written
+  pub written_whole : (len : ℕ) (new old : List A) → length new ≡ length old → len ≡ length old → take len (new ++ drop (length new) old) ≡ new
+  written_whole len new old same long =
+      let none : drop (length new) old ≡ [] = drop_all (length new) old (omega arith) in
+      let whole : new ++ drop (length new) old ≡ new = ap (λ (l : List A). new ++ l) none ∙ append-nil new in
+      ap (take len) whole ∙ take_all len new (omega arith)
+
   wanting_by : (is : Bool) (lost : List A) (memory : Type 0) → MatchBool is memory (lost ≡ []) → 0 < length lost → memory
   wanting_by true lost memory full some = full
   wanting_by false lost memory full some = absurd (let none : length lost ≡ 0 = ap (λ (l : List A). length l) full in omega arith)
@@ -186,13 +193,13 @@ module _ {K Ln I G L D C : Type 0} (parts : K → KitParts Ln I G L D C) (tells 
       let one = one_mine final more w z h.0 grows (All-head (λ (z : Worker K). IsJoined z.pass final) z zs joined) in
       let rest = all_mine final more ws zs h.1 grows (All-tail (λ (z : Worker K). IsJoined z.pass final) z zs joined) in
       λ k d lt some.
-          let n = (get_or more k d).who in
-          let a = sum_by-cons (sessions_in n) (shift_of w z h.0) (shifts_of ws zs h.1) in
-          let b = sum_by-cons (λ (w : Worker K). stands_in n w.pass.number w.pass.spare) w ws in
-          ⊎_elim
-              (λ (t : 0 < stands_in n w.pass.number w.pass.spare). let m = one k d lt t in omega arith)
-              (λ (t : 0 < workers_in n ws). let m = rest k d lt t in omega arith)
-              (some_of (stands_in n w.pass.number w.pass.spare) (workers_in n ws) (omega arith))
+      let n = (get_or more k d).who in
+      let a = sum_by-cons (sessions_in n) (shift_of w z h.0) (shifts_of ws zs h.1) in
+      let b = sum_by-cons (λ (w : Worker K). stands_in n w.pass.number w.pass.spare) w ws in
+      ⊎_elim
+      (λ (t : 0 < stands_in n w.pass.number w.pass.spare). let m = one k d lt t in omega arith)
+      (λ (t : 0 < workers_in n ws). let m = rest k d lt t in omega arith)
+      (some_of (stands_in n w.pass.number w.pass.spare) (workers_in n ws) (omega arith))
 
   pub have_worked : (before first final : HubView) (desks : List Desk) (drawn gathered : ClaimView) (next : ℕ) (ws zs : List (Worker K)) (kits back : List K) (told : List WorkerReport)
       → before.turn ≡ turn → before.seen ≡ seen

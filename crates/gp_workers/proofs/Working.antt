@@ -112,12 +112,12 @@ module _ {S L D C : Type 0} where
             let was = of_range x b.pass in let is = of_range x n.pass in
             let same : stands_in x n.pass.number n.pass.spare ≡ stands_in x b.pass.number b.pass.spare = rw (first, spare) refl in
             ⊎_elim
-                (λ (t : 0 < times_in x (ranges_of b.pass)). inl (omega arith))
-                (λ (t : 0 < running_in x rs). ⊎_elim
-                (λ (u : 0 < running_in x zs). inr u)
-                (λ (u : 0 < stands_in x number numbers). let g = given.ranges x u in inl (omega arith))
-                (some_of (running_in x zs) (stands_in x number numbers) (omega arith)))
-                (r.covers x has);
+            (λ (t : 0 < times_in x (ranges_of b.pass)). inl (omega arith))
+            (λ (t : 0 < running_in x rs). ⊎_elim
+            (λ (u : 0 < running_in x zs). inr u)
+            (λ (u : 0 < stands_in x number numbers). let g = given.ranges x u in inl (omega arith))
+            (some_of (running_in x zs) (stands_in x number numbers) (omega arith)))
+            (r.covers x has);
         more = mine.0;
         grows = mine.1;
         mine = mine.2;

@@ -43,7 +43,7 @@ module _ {L D C : Type 0} where
   HoldsStand history one = one.over.outcome.holds.items ≡ map hold_report (owned (range one.over.outcome.pass.number numbers) history)
 
 module _ {K Ln I G L D C : Type 0} where
-  pub record HasShifted (parts : K → KitParts Ln I G L D C) (tells : Ln → ListenTells) (means : Means L D C) (turn : TableId) (limit next : ℕ) (joined : HubView) (shift : Shift K L D C) : Type 0 where
+  pub record HasShifted (parts : K → KitParts Ln I G L D C) (tells : Ln → ListenTells) (means : Means L D C) (turn : TableId) (limit next : ℕ) (now : HubView) (shift : Shift K L D C) : Type 0 where
     -- its reports are those of its sessions, place by place, and so is what its kit was handed back
     pub reports : shift.report.sessions.items ≡ map report_of (sessions_of shift)
     pub handed : (parts shift.after).handed ≡ option_map (λ (all : List (Handed L D C)). all ++ map handed_of shift.back) (parts shift.before).handed
@@ -51,9 +51,9 @@ module _ {K Ln I G L D C : Type 0} where
     pub wanting : 0 < length shift.lost → shift.report.no_memory ≡ true
     -- what the maker says holds of each session, on a history that begins the joined one and holds all entries of its numbers
     pub holds : All (Holds means turn) (sessions_of shift)
-    pub joined : All (λ (one : Gave L D C). IsJoined one.over.outcome.pass joined) (sessions_of shift)
+    pub joined : All (λ (one : Gave L D C). IsJoined one.over.outcome.pass now) (sessions_of shift)
     -- the holds of each session are reported as they stand in the joined history
-    pub stand : All (HoldsStand joined.seen) (sessions_of shift)
+    pub stand : All (HoldsStand now.seen) (sessions_of shift)
     -- at most one claim was dropped, for want of memory
     pub few : length shift.dropped ≤ 1
     pub memory : 0 < length shift.dropped → shift.report.no_memory ≡ true
@@ -66,12 +66,12 @@ module _ {K Ln I G L D C : Type 0} where
   -- one report, but for those that were dropped. The numbers that sessions were handed are the pass's, and apart. The pass
   -- has all its parts again, and what it has seen goes on from before: an entry of a number that was the pass's is of a
   -- number that one session was handed.
-  pub record HaveWorked (parts : K → KitParts Ln I G L D C) (tells : Ln → ListenTells) (means : Means L D C) (limit : ℕ) (before now : HubView) (kits back : List K) (reports : List WorkerReport) : Type 0 where
+  pub record HaveWorked (parts : K → KitParts Ln I G L D C) (tells : Ln → ListenTells) (means : Means L D C) (limit : ℕ) (before now : HubView) (given taken : List K) (told : List WorkerReport) : Type 0 where
     pub shifts : List (Shift K L D C)
     pub next : ℕ
-    pub kits : kits ≡ map (λ (shift : Shift K L D C). shift.before) shifts
-    pub back : back ≡ map (λ (shift : Shift K L D C). shift.after) shifts
-    pub reports : reports ≡ map (λ (shift : Shift K L D C). shift.report) shifts
+    pub kits : given ≡ map (λ (shift : Shift K L D C). shift.before) shifts
+    pub back : taken ≡ map (λ (shift : Shift K L D C). shift.after) shifts
+    pub reports : told ≡ map (λ (shift : Shift K L D C). shift.report) shifts
     pub each : All (HasShifted parts tells means before.turn limit next now) shifts
     pub claims : (x : ℕ) → x < limit → sum_by (claims_at x) shifts ≡ below x next
     pub apart : (n : ℕ) → sum_by (sessions_in n) shifts ≤ stands_in n before.number before.spare

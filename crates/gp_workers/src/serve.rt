@@ -16,11 +16,7 @@ use gp_outside::{Idle, Kit};
 use std::sync::Wait;
 
 /// Whether the worker has nothing to do any more: no session runs, and it takes no connection.
-fn is_done<M, K: Kit, S>(
-    crew: &Crew<'_, M>,
-    worker: &mut Worker<K>,
-    running: &[Running<S>],
-) -> bool
+fn is_done<M, K: Kit, S>(crew: &Crew<'_, M>, worker: &mut Worker<K>, running: &[Running<S>]) -> bool
     requires claims { worker.old.claimer.table ≡ crew.now.claims.now }
     ensures moved { HasMoved (books K.parts K.Listen.tells worker.old) (books K.parts K.Listen.tells worker.new) }
     ensures same { worker.new.reports ≡ worker.old.reports }

@@ -19,10 +19,9 @@ use gp_hub::{Hub, HubPass};
 use gp_outside::Kit;
 use gp_plain::Queue;
 use std::alloc::{AllocError, Global};
-use std::mem;
 use std::sync::Wait;
-use std::thread;
 use std::thread::Threads;
+use std::{mem, thread};
 
 /// Each worker serves in a thread of its own. It returns once all have done their work.
 fn serve_all<R: Threads + Wait + Sync, K: Kit + Send, M: Maker<Kit = K> + Sync>(
@@ -92,7 +91,7 @@ struct Room<K> {
 }
 
 /// Room for so many workers.
-fn room_for<K>(alloc: Global, count: usize) -> Result<Room<K>, AllocError>
+fn room_for<K: Drop>(alloc: Global, count: usize) -> Result<Room<K>, AllocError>
     ensures workers { IfOk result (λ room. (room.workers.items ≡ []) × (vec_len room.workers ≡ 0) × (count ≤ vec_capacity room.workers)) }
     ensures kits { IfOk result (λ room. (room.kits.items ≡ []) × (vec_len room.kits ≡ 0) × (count ≤ vec_capacity room.kits)) }
     ensures reports { IfOk result (λ room. (room.reports.items ≡ []) × (vec_len room.reports ≡ 0) × (count ≤ vec_capacity room.reports)) }
@@ -197,14 +196,5 @@ where
         limit: limit as u64,
         most: MOST / count.max(1),
     };
-    Ok(employ::<R, K, M>(
-        rt,
-        alloc,
-        &crew,
-        room,
-        desks,
-        pass,
-        &mut claimer,
-        kits,
-    ))
+    Ok(employ::<R, K, M>(rt, alloc, &crew, room, desks, pass, &mut claimer, kits))
 }

@@ -22,18 +22,18 @@ returns-in-Ok-made g c = record {
 pub returns-in-Err : goal.returns-in-Err
 returns-in-Err g c =
     let back = rejoined c.args.worker.now.pass c.split.new.from c.in-Err.pass c.join.new.into numbers (search rules) (search rules) (search rules) (search rules) c.join.ensures.goes_on c.join.ensures.gone in record {
-  left = record { claimer = search rules; reports = search rules; spare = search rules; handed = search rules; clients = search rules; publishers = search rules; failed = search rules; full = search rules };
-  made = inr (record {
-    running = search rules;
-    turn = search rules;
-    number = search rules;
-    parts = search rules;
-    spare = search rules;
-    enough = search rules;
-    fewer = search rules;
-    goes_on = back.0;
-    ranges = back.1;
-    past = back.2;
-    memory = search rules;
-  });
-}
+      left = record { claimer = search rules; reports = search rules; spare = search rules; handed = search rules; clients = search rules; publishers = search rules; failed = search rules; full = search rules };
+      made = inr (record {
+        running = search rules;
+        turn = search rules;
+        number = search rules;
+        parts = search rules;
+        spare = search rules;
+        enough = search rules;
+        fewer = search rules;
+        goes_on = back.0;
+        ranges = back.1;
+        past = back.2;
+        memory = search rules;
+      });
+    }

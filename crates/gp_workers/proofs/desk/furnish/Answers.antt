@@ -15,5 +15,5 @@ loop-preserved c =
       search rules,
       search rules,
       rw c.push_reserved.ensures.items
-      (shared_push c.args.hub.now c.args.claims.now c.args.pass.now.seen c.loop.desks.items c.in_ok-made.made c.args.pass.now c.loop.pass c.place.new.pass c.loop.claimer c.place.new.claimer shared made c.in_ok-made.ensures.number c.in_ok-made.ensures.pass c.in_ok-made.ensures.claimer (search rules)),
+          (shared_push c.args.hub.now c.args.claims.now c.args.pass.now.seen c.loop.desks.items c.in_ok-made.made c.args.pass.now c.loop.pass c.place.new.pass c.loop.claimer c.place.new.claimer shared made c.in_ok-made.ensures.number c.in_ok-made.ensures.pass c.in_ok-made.ensures.claimer (search rules)),
     )
