@@ -1,6 +1,11 @@
 pub mod Claiming
+pub mod Joining
 pub mod Working
 pub mod Entering
 pub mod Moving
 pub mod Hiring
+pub mod Furnishing
+pub mod Dismissing
+pub mod Owning
+pub mod Shifting
 pub mod Taking

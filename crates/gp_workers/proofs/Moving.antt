@@ -6,10 +6,11 @@ use Rattle.gp_outside.specs.Counts.{Rose}
 use Rattle.gp_workers.specs.Claims.{ClaimView}
 use Rattle.gp_workers.specs.Makers.{Means}
 use Rattle.gp_workers.specs.Books.{Books}
-use Rattle.gp_workers.specs.Works.{Listened, Stands, Works}
+use Rattle.gp_workers.specs.Works.{Listened, Stands, Works, running_in}
 use Rattle.gp_workers.specs.Doors.{HasMoved}
 use Rattle.gp_workers.specs.declared.maker.Finished.{Finished}
 use Rattle.gp_workers.specs.declared.worker.Running.{Running}
+use Rattle.gp_workers.proofs.Joining.{grown_same, ranged_kept}
 use Rattle.gp_workers.proofs.Entering.{told_kept}
 
 rose_later : (a b c : ℕ) → Rose a b → b ≤ c → Rose a c
@@ -32,11 +33,11 @@ module _ {L D C : Type 0} where
       }
 
 module _ {S L D C : Type 0} where
-  pub moved_works : (means : Means L D C) (limit : ℕ) (start b n : Books L D C) (rs zs : List (Running S)) → zs ≡ rs → HasMoved b n → Works means limit start b rs → Works means limit start n zs
-  moved_works means limit start b n rs zs same m w =
+  pub moved_works : (means : Means L D C) (turn : TableId) (limit : ℕ) (start b n : Books L D C) (rs zs : List (Running S)) → zs ≡ rs → HasMoved b n → Works means turn limit start b rs → Works means turn limit start n zs
+  moved_works means turn limit start b n rs zs same m w =
       let taken : n.claimer.taken ≡ b.claimer.taken = ap (λ (q : ClaimView). q.taken) m.claimer in
       let cl = w.claimed in record {
-        told = told_kept means start b n m.reports m.handed m.full m.memory ([], ap (λ (q : HubView). q.seen) m.pass ∙ sym (append-nil b.pass.seen)) w.told;
+        told = told_kept means turn start b n m.reports m.handed m.full m.memory (grown_same b.pass n.pass (ap (λ (q : HubView). q.seen) m.pass) (ap (λ (q : HubView). q.past) m.pass)) w.told;
         parted = record { number = ap (λ (q : HubView). q.number) m.pass ∙ w.parted.number; parts = rw (m.pass, same) w.parted.parts };
         listened = moved_listened start b n m w.listened;
         claimed = record {
@@ -45,6 +46,7 @@ module _ {S L D C : Type 0} where
           memory = λ some. m.memory (cl.memory some);
           each = λ x below. rw (taken, m.reports, same) (cl.each x below);
         };
+        ranged = ranged_kept start b n (λ x. running_in x rs) (λ x. running_in x zs) m.pass m.reports (λ x. ap (running_in x) same) w.ranged;
       }
 
   pub moved_stands : (ended : S → Type 0) (may_give : S → Finished L D C → Type 0) (means : Means L D C) (turn claims : TableId) (b n : Books L D C) (rs : List (Running S))

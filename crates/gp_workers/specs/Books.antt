@@ -29,8 +29,8 @@ pub record Gave (L D C : Type 0) : Type 0 where
   pub claim : ℕ
   pub over : Finished L D C
 
-module _ {K S Ln I G L D C : Type 0} where
-  abbrev pub books : (K → KitParts Ln I G L D C) → (Ln → ListenTells) → Worker K S → Books L D C
+module _ {K Ln I G L D C : Type 0} where
+  abbrev pub books : (K → KitParts Ln I G L D C) → (Ln → ListenTells) → Worker K → Books L D C
   books parts tells worker = record {
     pass = worker.pass;
     claimer = worker.claimer;

@@ -1,5 +1,5 @@
 -- What a worker does at the doors of its kit.
-use Rattle.std.specs.Prelude.{ℕ, ◌≡◌, ◌+◌, ◌-◌, ◌≤◌, ◌⊎◌, true, List, [], ◌∷◌, ◌++◌}
+use Rattle.std.specs.Prelude.{ℕ, ◌≡◌, ◌+◌, ◌-◌, ◌<◌, ◌≤◌, ◌⊎◌, true, List, [], ◌∷◌, ◌++◌}
 use Rattle.gp_outside.specs.Counts.{Rose}
 use Rattle.gp_outside.specs.Kits.{KitParts}
 use Rattle.gp_outside.specs.Links.{LinkTells}
@@ -8,10 +8,11 @@ use Rattle.gp_outside.specs.Unused.{IsUnusedLink}
 use Rattle.gp_outside.specs.declared.listen.Accepted.{Accepted}
 use Rattle.gp_outside.specs.declared.listen.Accepted.TheVariants.{Took, NotReady, Failed}
 use Rattle.atomic_table.specs.Seated.{TableId}
-use Rattle.gp_turn.specs.Passes.{shortened}
+use Rattle.gp_turn.specs.Passes.{ranges_of, shortened, times_in}
+use Rattle.gp_hub.specs.Passes.{GoesOnFrom}
 use Rattle.gp_workers.specs.Makers.{Means, numbers}
 use Rattle.gp_workers.specs.Books.{Books}
-use Rattle.gp_workers.specs.Works.{Begins, IsOpen}
+use Rattle.gp_workers.specs.Works.{IsOpen}
 use Rattle.gp_workers.specs.declared.maker.Finished.{Finished}
 use Rattle.gp_workers.specs.declared.worker.Running.{Running}
 
@@ -74,7 +75,7 @@ module _ {S L D C : Type 0} where
     pub memory : now.no_memory ≡ before.no_memory
 
 module _ {S L D C : Type 0} where
-  -- memory was wanting, and the pass has its parts again
+  -- memory was wanting, and the pass has its parts and all its numbers again
   pub record HasRefused (before now : Books L D C) (rs zs : List (Running S)) : Type 0 where
     pub running : zs ≡ rs
     pub turn : now.pass.turn ≡ before.pass.turn
@@ -82,7 +83,10 @@ module _ {S L D C : Type 0} where
     pub parts : now.pass.parts ≡ before.pass.parts
     pub spare : before.pass.spare ≤ now.pass.spare + numbers
     pub enough : now.pass.spare ≤ now.pass.parts
-    pub begins : Begins before.pass.seen now.pass.seen
+    pub fewer : now.pass.spare ≤ before.pass.spare
+    pub goes_on : GoesOnFrom before.pass now.pass.seen
+    pub ranges : (n : ℕ) → times_in n (ranges_of now.pass) ≡ times_in n (ranges_of before.pass)
+    pub past : (n : ℕ) → times_in n before.pass.past ≤ times_in n now.pass.past
     pub memory : now.no_memory ≡ true
 
   pub record HasBegun (ended : S → Type 0) (may_give : S → Finished L D C → Type 0) (means : Means L D C) (turn : TableId) (claim : ℕ) (before now : Books L D C) (rs zs : List (Running S)) : Type 0 where

@@ -8,3 +8,4 @@ pub mod Doors
 pub mod Hires
 pub mod Desks
 pub mod Served
+pub mod Shifts

@@ -21,16 +21,17 @@ const NUMBERS: u64 = 1024;
 /// Begins the session of a connection that has a claim, where memory isn't wanting.
 fn begin<M: Maker>(
     crew: &Crew<'_, M>,
-    worker: &mut Worker<M::Kit, Visiting<M>>,
+    worker: &mut Worker<M::Kit>,
+    running: &mut Vec<Running<Visiting<M>>>,
     door: Door,
     claim: u32,
     link: <<M::Kit as Kit>::Listen as Listen>::Link,
 )
     requires turn { (worker.old.pass.turn ≡ crew.now.hub.now) × (M.turn crew.now.maker.now ≡ crew.now.hub.now) }
     requires numbers { (numbers < worker.old.pass.spare) × (worker.old.pass.spare ≤ worker.old.pass.parts) }
-    requires room { vec_len worker.old.running < vec_capacity worker.old.running }
+    requires room { vec_len running.old < vec_capacity running.old }
     requires link { IsUnusedLink (M.Kit.Listen.Link.tells link) }
-    ensures { HasBegun (λ v. ended_by M.Client.ended M.Publisher.ended v.visit) (λ v. gives_by M.Client.may_give M.Publisher.may_give v.visit) (M.means crew.now.maker.now) crew.now.hub.now claim (books M.Kit.parts M.Kit.Listen.tells worker.old) (books M.Kit.parts M.Kit.Listen.tells worker.new) worker.old.running.items worker.new.running.items }
+    ensures { HasBegun (λ v. ended_by M.Client.ended M.Publisher.ended v.visit) (λ v. gives_by M.Client.may_give M.Publisher.may_give v.visit) (M.means crew.now.maker.now) crew.now.hub.now claim (books M.Kit.parts M.Kit.Listen.tells worker.old) (books M.Kit.parts M.Kit.Listen.tells worker.new) running.old.items running.new.items }
 {
     let Ok(pass) = crew.hub.split(&mut worker.pass, NUMBERS) else {
         worker.no_memory = true;
@@ -38,7 +39,7 @@ fn begin<M: Maker>(
     };
     let number = pass.number();
     match made::<M>(crew.maker, &mut worker.kit, door, pass, claim, link) {
-        Ok(session) => worker.running.push_reserved(Running {
+        Ok(session) => running.push_reserved(Running {
             claim,
             number,
             session,
@@ -53,37 +54,38 @@ fn begin<M: Maker>(
 /// A connection takes its claim, and is served where that is below the limit.
 fn enter<M: Maker>(
     crew: &Crew<'_, M>,
-    worker: &mut Worker<M::Kit, Visiting<M>>,
+    worker: &mut Worker<M::Kit>,
+    running: &mut Vec<Running<Visiting<M>>>,
     door: Door,
     link: <<M::Kit as Kit>::Listen as Listen>::Link,
 )
     requires turn { M.turn crew.now.maker.now ≡ crew.now.hub.now }
-    requires stands { Stands (λ v. ended_by M.Client.ended M.Publisher.ended v.visit) (λ v. gives_by M.Client.may_give M.Publisher.may_give v.visit) (M.means crew.now.maker.now) crew.now.hub.now crew.now.claims.now (books M.Kit.parts M.Kit.Listen.tells worker.old) worker.old.running.items }
-    requires room { (vec_len worker.old.running + 1 ≤ worker.old.reports.spare) × (vec_len worker.old.running < vec_capacity worker.old.running) }
+    requires stands { Stands (λ v. ended_by M.Client.ended M.Publisher.ended v.visit) (λ v. gives_by M.Client.may_give M.Publisher.may_give v.visit) (M.means crew.now.maker.now) crew.now.hub.now crew.now.claims.now (books M.Kit.parts M.Kit.Listen.tells worker.old) running.old.items }
+    requires room { (vec_len running.old + 1 ≤ worker.old.reports.spare) × (vec_len running.old < vec_capacity running.old) }
     requires limit { crew.now.limit < 2 ^ 32 }
     requires next { worker.old.claimer.note < 2 ^ 32 }
     requires memory { worker.old.no_memory ≡ false }
     requires link { IsUnusedLink (M.Kit.Listen.Link.tells link) }
-    ensures stands { Stands (λ v. ended_by M.Client.ended M.Publisher.ended v.visit) (λ v. gives_by M.Client.may_give M.Publisher.may_give v.visit) (M.means crew.now.maker.now) crew.now.hub.now crew.now.claims.now (books M.Kit.parts M.Kit.Listen.tells worker.new) worker.new.running.items }
-    ensures works { (start : Books _ _ _) → Works (M.means crew.now.maker.now) crew.now.limit start (books M.Kit.parts M.Kit.Listen.tells worker.old) worker.old.running.items → Works (M.means crew.now.maker.now) crew.now.limit start (books M.Kit.parts M.Kit.Listen.tells worker.new) worker.new.running.items }
+    ensures stands { Stands (λ v. ended_by M.Client.ended M.Publisher.ended v.visit) (λ v. gives_by M.Client.may_give M.Publisher.may_give v.visit) (M.means crew.now.maker.now) crew.now.hub.now crew.now.claims.now (books M.Kit.parts M.Kit.Listen.tells worker.new) running.new.items }
+    ensures works { (start : Books _ _ _) → Works (M.means crew.now.maker.now) crew.now.hub.now crew.now.limit start (books M.Kit.parts M.Kit.Listen.tells worker.old) running.old.items → Works (M.means crew.now.maker.now) crew.now.hub.now crew.now.limit start (books M.Kit.parts M.Kit.Listen.tells worker.new) running.new.items }
 {
     let claim = crew.claims.take(&mut worker.claimer);
     if claim < crew.limit {
-        begin::<M>(crew, worker, door, claim as u32, link);
+        begin::<M>(crew, worker, running, door, claim as u32, link);
     }
 }
 
 /// Makes room for one more session and its report.
-fn make_room<K, S>(worker: &mut Worker<K, S>) -> bool
-    ensures room { result ≡ true → (vec_len worker.new.running + 1 ≤ worker.new.reports.spare) × (vec_len worker.new.running < vec_capacity worker.new.running) }
-    ensures running { worker.new.running.items ≡ worker.old.running.items }
+fn make_room<K, S>(worker: &mut Worker<K>, running: &mut Vec<Running<S>>) -> bool
+    ensures room { result ≡ true → (vec_len running.new + 1 ≤ worker.new.reports.spare) × (vec_len running.new < vec_capacity running.new) }
+    ensures running { running.new.items ≡ running.old.items }
     ensures reports { worker.new.reports.items ≡ worker.old.reports.items }
-    ensures kept { vec_len worker.old.running ≤ worker.old.reports.spare → vec_len worker.new.running ≤ worker.new.reports.spare }
+    ensures kept { vec_len running.old ≤ worker.old.reports.spare → vec_len running.new ≤ worker.new.reports.spare }
     ensures memory { MatchBool result (worker.new.no_memory ≡ worker.old.no_memory) (worker.new.no_memory ≡ true) }
     ensures same { (worker.new.kit ≡ worker.old.kit) × (worker.new.pass ≡ worker.old.pass) × (worker.new.claimer ≡ worker.old.claimer) × (worker.new.listen_failed ≡ worker.old.listen_failed) × (worker.new.is_full ≡ worker.old.is_full) }
 {
-    let wanted = worker.running.len() + 1;
-    if worker.reports.reserve(wanted).is_err() || worker.running.reserve(1).is_err() {
+    let wanted = running.len() + 1;
+    if worker.reports.reserve(wanted).is_err() || running.reserve(1).is_err() {
         worker.no_memory = true;
         return false;
     }
@@ -91,7 +93,7 @@ fn make_room<K, S>(worker: &mut Worker<K, S>) -> bool
 }
 
 /// Whether the worker takes connections still: nothing failed, and there are claims left.
-pub fn takes_more<M, K, S>(crew: &Crew<'_, M>, worker: &mut Worker<K, S>) -> bool
+pub fn takes_more<M, K>(crew: &Crew<'_, M>, worker: &mut Worker<K>) -> bool
     requires claims { worker.old.claimer.table ≡ crew.now.claims.now }
     ensures more { result ≡ true → (worker.new.claimer.note < crew.now.limit) × (worker.new.no_memory ≡ false) × (worker.new.listen_failed ≡ false) }
     ensures none { result ≡ false → (crew.now.limit ≤ worker.new.claimer.note) ⊎ (worker.new.no_memory ≡ true) ⊎ (worker.new.listen_failed ≡ true) }
@@ -105,25 +107,29 @@ pub fn takes_more<M, K, S>(crew: &Crew<'_, M>, worker: &mut Worker<K, S>) -> boo
 }
 
 /// Whether one more session can begin, for which it makes room.
-fn prepares<M, K: Kit, S>(crew: &Crew<'_, M>, worker: &mut Worker<K, S>) -> bool
+fn prepares<M, K: Kit, S>(
+    crew: &Crew<'_, M>,
+    worker: &mut Worker<K>,
+    running: &mut Vec<Running<S>>,
+) -> bool
     requires claims { worker.old.claimer.table ≡ crew.now.claims.now }
     ensures moved { HasMoved (books K.parts K.Listen.tells worker.old) (books K.parts K.Listen.tells worker.new) }
-    ensures running { worker.new.running.items ≡ worker.old.running.items }
-    ensures kept { vec_len worker.old.running ≤ worker.old.reports.spare → vec_len worker.new.running ≤ worker.new.reports.spare }
-    ensures room { result ≡ true → (vec_len worker.new.running + 1 ≤ worker.new.reports.spare) × (vec_len worker.new.running < vec_capacity worker.new.running) }
+    ensures running { running.new.items ≡ running.old.items }
+    ensures kept { vec_len running.old ≤ worker.old.reports.spare → vec_len running.new ≤ worker.new.reports.spare }
+    ensures room { result ≡ true → (vec_len running.new + 1 ≤ worker.new.reports.spare) × (vec_len running.new < vec_capacity running.new) }
     ensures next { result ≡ true → (worker.new.claimer.note < crew.now.limit) × (worker.new.no_memory ≡ false) }
 {
-    if worker.running.len() >= crew.most || !takes_more(crew, worker) {
+    if running.len() >= crew.most || !takes_more(crew, worker) {
         return false;
     }
-    make_room(worker)
+    make_room(worker, running)
 }
 
 /// Looks for a connection at a door.
-fn look<K: Kit, S>(worker: &mut Worker<K, S>, door: Door) -> Accepted<<K::Listen as Listen>::Link>
+fn look<K: Kit>(worker: &mut Worker<K>, door: Door) -> Accepted<<K::Listen as Listen>::Link>
     ensures moved { HasMoved (books K.parts K.Listen.tells worker.old) (books K.parts K.Listen.tells worker.new) }
     ensures link { IsTaken K.Listen.Link.tells result }
-    ensures same { (worker.new.running ≡ worker.old.running) × (worker.new.reports ≡ worker.old.reports) × (worker.new.claimer ≡ worker.old.claimer) × (worker.new.no_memory ≡ worker.old.no_memory) }
+    ensures same { (worker.new.reports ≡ worker.old.reports) × (worker.new.claimer ≡ worker.old.claimer) × (worker.new.no_memory ≡ worker.old.no_memory) }
 {
     let accepted = accept(&mut worker.kit, door);
     if let Accepted::Failed = &accepted {
@@ -135,21 +141,22 @@ fn look<K: Kit, S>(worker: &mut Worker<K, S>, door: Door) -> Accepted<<K::Listen
 /// Accepts once at a door, and says whether a connection came.
 pub fn admit<M: Maker>(
     crew: &Crew<'_, M>,
-    worker: &mut Worker<M::Kit, Visiting<M>>,
+    worker: &mut Worker<M::Kit>,
+    running: &mut Vec<Running<Visiting<M>>>,
     door: Door,
 ) -> bool
     requires turn { M.turn crew.now.maker.now ≡ crew.now.hub.now }
     requires limit { crew.now.limit < 2 ^ 32 }
-    requires stands { Stands (λ v. ended_by M.Client.ended M.Publisher.ended v.visit) (λ v. gives_by M.Client.may_give M.Publisher.may_give v.visit) (M.means crew.now.maker.now) crew.now.hub.now crew.now.claims.now (books M.Kit.parts M.Kit.Listen.tells worker.old) worker.old.running.items }
-    ensures stands { Stands (λ v. ended_by M.Client.ended M.Publisher.ended v.visit) (λ v. gives_by M.Client.may_give M.Publisher.may_give v.visit) (M.means crew.now.maker.now) crew.now.hub.now crew.now.claims.now (books M.Kit.parts M.Kit.Listen.tells worker.new) worker.new.running.items }
-    ensures works { (start : Books _ _ _) → Works (M.means crew.now.maker.now) crew.now.limit start (books M.Kit.parts M.Kit.Listen.tells worker.old) worker.old.running.items → Works (M.means crew.now.maker.now) crew.now.limit start (books M.Kit.parts M.Kit.Listen.tells worker.new) worker.new.running.items }
+    requires stands { Stands (λ v. ended_by M.Client.ended M.Publisher.ended v.visit) (λ v. gives_by M.Client.may_give M.Publisher.may_give v.visit) (M.means crew.now.maker.now) crew.now.hub.now crew.now.claims.now (books M.Kit.parts M.Kit.Listen.tells worker.old) running.old.items }
+    ensures stands { Stands (λ v. ended_by M.Client.ended M.Publisher.ended v.visit) (λ v. gives_by M.Client.may_give M.Publisher.may_give v.visit) (M.means crew.now.maker.now) crew.now.hub.now crew.now.claims.now (books M.Kit.parts M.Kit.Listen.tells worker.new) running.new.items }
+    ensures works { (start : Books _ _ _) → Works (M.means crew.now.maker.now) crew.now.hub.now crew.now.limit start (books M.Kit.parts M.Kit.Listen.tells worker.old) running.old.items → Works (M.means crew.now.maker.now) crew.now.hub.now crew.now.limit start (books M.Kit.parts M.Kit.Listen.tells worker.new) running.new.items }
 {
-    if !prepares::<M, M::Kit, Visiting<M>>(crew, worker) {
+    if !prepares::<M, M::Kit, Visiting<M>>(crew, worker, running) {
         return false;
     }
-    match look::<M::Kit, Visiting<M>>(worker, door) {
+    match look::<M::Kit>(worker, door) {
         Accepted::Took(link) => {
-            enter::<M>(crew, worker, door, link);
+            enter::<M>(crew, worker, running, door, link);
             true
         }
         Accepted::NotReady => false,

@@ -19,9 +19,11 @@ mod maker;
 mod poll;
 mod report;
 mod serve;
+mod staff;
 mod visit;
 mod worker;
 
 pub use driven::Driven;
 pub use maker::{Finished, Maker, Over};
 pub use report::{SessionReport, SessionReports, WorkerReport};
+pub use staff::work;

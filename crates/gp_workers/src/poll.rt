@@ -27,20 +27,21 @@ fn visit<K: Kit, S: Session<Output = Over<K>>>(kit: &K, running: &mut Running<S>
 /// Polls the session at a place. Where it ended, the last one takes its place.
 fn poll_at<M: Maker, S: Session<Output = Over<M::Kit>> + Drop>(
     crew: &Crew<'_, M>,
-    worker: &mut Worker<M::Kit, S>,
+    worker: &mut Worker<M::Kit>,
+    running: &mut Vec<Running<S>>,
     place: usize,
 ) -> bool
-    requires place { place < length worker.old.running.items }
-    requires stands { Stands S.ended S.may_give (M.means crew.now.maker.now) crew.now.hub.now crew.now.claims.now (books M.Kit.parts M.Kit.Listen.tells worker.old) worker.old.running.items }
-    ensures stands { Stands S.ended S.may_give (M.means crew.now.maker.now) crew.now.hub.now crew.now.claims.now (books M.Kit.parts M.Kit.Listen.tells worker.new) worker.new.running.items }
-    ensures len { MatchBool result (length worker.new.running.items + 1 ≡ length worker.old.running.items) (length worker.new.running.items ≡ length worker.old.running.items) }
-    ensures works { (start : Books _ _ _) → Works (M.means crew.now.maker.now) crew.now.limit start (books M.Kit.parts M.Kit.Listen.tells worker.old) worker.old.running.items → Works (M.means crew.now.maker.now) crew.now.limit start (books M.Kit.parts M.Kit.Listen.tells worker.new) worker.new.running.items }
+    requires place { place < length running.old.items }
+    requires stands { Stands S.ended S.may_give (M.means crew.now.maker.now) crew.now.hub.now crew.now.claims.now (books M.Kit.parts M.Kit.Listen.tells worker.old) running.old.items }
+    ensures stands { Stands S.ended S.may_give (M.means crew.now.maker.now) crew.now.hub.now crew.now.claims.now (books M.Kit.parts M.Kit.Listen.tells worker.new) running.new.items }
+    ensures len { MatchBool result (length running.new.items + 1 ≡ length running.old.items) (length running.new.items ≡ length running.old.items) }
+    ensures works { (start : Books _ _ _) → Works (M.means crew.now.maker.now) crew.now.hub.now crew.now.limit start (books M.Kit.parts M.Kit.Listen.tells worker.old) running.old.items → Works (M.means crew.now.maker.now) crew.now.hub.now crew.now.limit start (books M.Kit.parts M.Kit.Listen.tells worker.new) running.new.items }
 {
-    match visit::<M::Kit, S>(&worker.kit, &mut worker.running[place]) {
+    match visit::<M::Kit, S>(&worker.kit, &mut running[place]) {
         Polled::Pending => false,
         Polled::Ready(over) => {
-            let ended = worker.running.swap_remove(place);
-            finish::<M::Kit, S>(worker, crew.hub, ended.claim, over);
+            let ended = running.swap_remove(place);
+            finish::<M::Kit>(worker, crew.hub, ended.claim, over);
             true
         }
     }
@@ -49,16 +50,17 @@ fn poll_at<M: Maker, S: Session<Output = Over<M::Kit>> + Drop>(
 /// Polls each session once, and says whether one ended.
 pub fn poll_all<M: Maker, S: Session<Output = Over<M::Kit>> + Drop>(
     crew: &Crew<'_, M>,
-    worker: &mut Worker<M::Kit, S>,
+    worker: &mut Worker<M::Kit>,
+    running: &mut Vec<Running<S>>,
 ) -> bool
-    requires stands { Stands S.ended S.may_give (M.means crew.now.maker.now) crew.now.hub.now crew.now.claims.now (books M.Kit.parts M.Kit.Listen.tells worker.old) worker.old.running.items }
-    ensures stands { Stands S.ended S.may_give (M.means crew.now.maker.now) crew.now.hub.now crew.now.claims.now (books M.Kit.parts M.Kit.Listen.tells worker.new) worker.new.running.items }
-    ensures works { (start : Books _ _ _) → Works (M.means crew.now.maker.now) crew.now.limit start (books M.Kit.parts M.Kit.Listen.tells worker.old) worker.old.running.items → Works (M.means crew.now.maker.now) crew.now.limit start (books M.Kit.parts M.Kit.Listen.tells worker.new) worker.new.running.items }
+    requires stands { Stands S.ended S.may_give (M.means crew.now.maker.now) crew.now.hub.now crew.now.claims.now (books M.Kit.parts M.Kit.Listen.tells worker.old) running.old.items }
+    ensures stands { Stands S.ended S.may_give (M.means crew.now.maker.now) crew.now.hub.now crew.now.claims.now (books M.Kit.parts M.Kit.Listen.tells worker.new) running.new.items }
+    ensures works { (start : Books _ _ _) → Works (M.means crew.now.maker.now) crew.now.hub.now crew.now.limit start (books M.Kit.parts M.Kit.Listen.tells worker.old) running.old.items → Works (M.means crew.now.maker.now) crew.now.hub.now crew.now.limit start (books M.Kit.parts M.Kit.Listen.tells worker.new) running.new.items }
 {
     let mut has_ended = false;
     let mut place = 0;
-    while place < worker.running.len() {
-        if poll_at::<M, S>(crew, worker, place) {
+    while place < running.len() {
+        if poll_at::<M, S>(crew, worker, running, place) {
             has_ended = true;
         } else {
             place += 1;

@@ -16,13 +16,12 @@ pub struct Running<S> {
     pub session: S,
 }
 
-/// What one worker has.
+/// What one worker has, but for its sessions, which begin and end in its thread.
 #[derive(Drop)]
-pub struct Worker<K, S> {
+pub struct Worker<K> {
     pub kit: K,
     pub pass: HubPass,
     pub claimer: Claimer,
-    pub running: Vec<Running<S>>,
     pub reports: SessionReports,
     pub listen_failed: bool,
     pub no_memory: bool,
@@ -31,11 +30,10 @@ pub struct Worker<K, S> {
 }
 
 /// Ends a session: joins its pass, reports it, and hands its devices back.
-pub fn finish<K: Kit, S>(worker: &mut Worker<K, S>, hub: &Hub, claim: u32, over: Over<K>)
+pub fn finish<K: Kit>(worker: &mut Worker<K>, hub: &Hub, claim: u32, over: Over<K>)
     requires turn { (worker.old.pass.turn ≡ hub.now) × (over.outcome.pass.turn ≡ hub.now) }
     requires room { 0 < worker.old.reports.spare }
-    ensures finished { HasFinished (record { claim = claim; over = over }) (books K.parts K.Listen.tells worker.old) (books K.parts K.Listen.tells worker.new) }
-    ensures running { worker.new.running ≡ worker.old.running }
+    ensures { HasFinished (record { claim = claim; over = over }) (books K.parts K.Listen.tells worker.old) (books K.parts K.Listen.tells worker.new) }
 {
     let Finished {
         outcome,

@@ -11,7 +11,7 @@ returns-then-claim-crew-clause-stands g c =
     let before = stands.spare in let rise = stands.rise in let next = c.requires.next in
     begun_stands (λ v. ended_by g.M.Client.Session.ended g.M.Publisher.Session.ended v.visit) (λ v. gives_by g.M.Client.Session.may_give g.M.Publisher.Session.may_give v.visit) (g.M.Maker.means c.args.crew.now.maker.now) c.args.crew.now.hub.now c.args.crew.now.claims.now c.args.crew.now.limit
     (books g.M.Kit.Kit.parts g.M.Kit.Listen.Listen.tells c.args.worker.now) (books g.M.Kit.Kit.parts g.M.Kit.Listen.Listen.tells c.begin.new.worker) c.take-claim.new.by
-    c.args.worker.now.running.items c.begin.new.worker.running.items c.take-claim.result
+    c.args.running.now.items c.begin.new.running.items c.take-claim.result
     (search rules) (search rules) (search rules) (omega arith) c.begin.ensures stands
 
 -- src/admit.rt:54:1
@@ -21,5 +21,5 @@ returns-then-claim-crew-clause-works g c start w =
     let before = stands.spare in let rise = stands.rise in let next = c.requires.next in let enough = stands.enough in
     begun_works (λ v. ended_by g.M.Client.Session.ended g.M.Publisher.Session.ended v.visit) (λ v. gives_by g.M.Client.Session.may_give g.M.Publisher.Session.may_give v.visit) (g.M.Maker.means c.args.crew.now.maker.now) c.args.crew.now.hub.now c.args.crew.now.claims.now c.args.crew.now.limit
     start (books g.M.Kit.Kit.parts g.M.Kit.Listen.Listen.tells c.args.worker.now) (books g.M.Kit.Kit.parts g.M.Kit.Listen.Listen.tells c.begin.new.worker) c.take-claim.new.by
-    c.args.worker.now.running.items c.begin.new.worker.running.items c.take-claim.result
-    (search rules) (omega arith) c.requires.memory c.begin.ensures w
+    c.args.running.now.items c.begin.new.running.items c.take-claim.result
+    (search rules) (omega arith) enough c.requires.memory c.begin.ensures w

@@ -3,7 +3,7 @@ use Rattle.gp_workers.proofs.hire.clear.Goals as goal
 
 -- src/hire.rt:78:1
 pub returns : goal.returns
-returns g c =
+returns c =
     let empty = c.in_default.ensures.cases.0 in
     let ok = c.loop-desk.desks.ok in
     let none : length c.loop-desk.desks.items ≡ 0 = omega arith in

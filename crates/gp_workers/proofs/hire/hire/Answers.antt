@@ -1,7 +1,11 @@
-use Rattle.std.proofs.Common.{rules, ◌≡◌, ◌+◌, [], ◌∷◌, ◌++◌, All, length, length-append, slice_get, List, Some, sym, ◌∙◌, ap, arith}
+use Rattle.std.proofs.Common.{rules, ◌≡◌, ◌+◌, [], ◌∷◌, ◌++◌, All, length, length-append, slice_get, List, Some, false, sym, ◌∙◌, ap, arith}
 use Rattle.std.proofs.lemmas.List.Elements.{All-push, All-head}
 use Rattle.gp_turn.proofs.Histories.{all_front, all_back}
-use Rattle.gp_workers.specs.Desks.{IsDesk}
+use Rattle.std.proofs.lemmas.List.Sums.{sum_by_push}
+use Rattle.gp_workers.specs.Desks.{IsDesk, desks_in}
+use Rattle.gp_workers.specs.Works.{stands_in}
+use Rattle.gp_workers.specs.declared.desk.Desk.{Desk}
+use Rattle.gp_workers.specs.declared.worker.Worker.{Worker}
 use Rattle.gp_workers.specs.Books.{books}
 use Rattle.gp_workers.specs.Hires.{IsNew}
 use Rattle.gp_workers.proofs.Taking.{length_first, map_moved}
@@ -36,7 +40,13 @@ loop-kit-preserved g c =
       all_front is c.pop.new.self.items (c.in-Some-pop.desk ∷ []) all,
       rw left (omega arith),
       rw (left, c.push_reserved.ensures.items) (map_moved (λ w. w.kit) c.loop-kit.workers.items _ c.loop-kit.kits c.args.kits first c.loop-kit.invariant.2),
-      rw c.push_reserved.ensures.items (All-push (λ w. (w.running.items ≡ []) × IsNew c.args._hub.now c.args._claims.now (books g.K.Kit.parts g.K.Listen.Listen.tells w)) c.loop-kit.workers.items _ c.loop-kit.invariant.3
-          (one.running, record { of_turn = one.of_turn; spare = one.spare; parts = one.parts; of_claims = one.of_claims; share = one.share; taken = one.taken; reports = search rules; failed = search rules; memory = search rules; full = search rules })),
+      rw c.push_reserved.ensures.items (All-push (λ w. (w.pass.seen ≡ c.args._pass.now.seen) × IsNew c.args._hub.now c.args._claims.now (books g.K.Kit.parts g.K.Listen.Listen.tells w)) c.loop-kit.workers.items _ c.loop-kit.invariant.3
+          (one.has_seen, record { of_turn = one.of_turn; spare = one.spare; parts = one.parts; of_claims = one.of_claims; share = one.share; taken = one.taken; reports = search rules; failed = search rules; memory = search rules; full = search rules })),
       rw left (omega arith),
+      (λ n.
+          let before = c.loop-kit.invariant.5 n in
+          let more = sum_by_push (λ (w : Worker _). stands_in n w.pass.number w.pass.spare) c.loop-kit.workers.items (record { kit = c.in-Some.kit; pass = c.in-Some-pop.desk.pass; claimer = c.in-Some-pop.desk.claimer; reports = c.new.result; listen_failed = false; no_memory = false; is_full = false }) in
+          let less = sum_by_push (λ (d : Desk). stands_in n d.pass.number d.pass.spare) c.pop.new.self.items c.in-Some-pop.desk in
+          let was : desks_in n c.loop-kit.desks.items ≡ desks_in n (c.pop.new.self.items ++ c.in-Some-pop.desk ∷ []) = ap (desks_in n) desks in
+          rw c.push_reserved.ensures.items (omega arith)),
     )

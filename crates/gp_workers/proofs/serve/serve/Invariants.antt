@@ -8,5 +8,5 @@ invariant-loop g l =
     let told = books g.M.Kit.Kit.parts g.M.Kit.Listen.Listen.tells in
     let means = g.M.Maker.means l.crew.maker.now in
     (goal.iterator-loop g).can_next l.iterator' × (goal.iterator-loop g).is_finite l.iterator'
-    × Stands (λ v. ended_by g.M.Client.Session.ended g.M.Publisher.Session.ended v.visit) (λ v. gives_by g.M.Client.Session.may_give g.M.Publisher.Session.may_give v.visit) means l.crew.hub.now l.crew.claims.now (told l.worker) l.worker.running.items
-    × ((start : Books _ _ _) → Works means l.crew.limit start (told l.initial.worker) l.initial.worker.running.items → Works means l.crew.limit start (told l.worker) l.worker.running.items)
+    × Stands (λ v. ended_by g.M.Client.Session.ended g.M.Publisher.Session.ended v.visit) (λ v. gives_by g.M.Client.Session.may_give g.M.Publisher.Session.may_give v.visit) means l.crew.hub.now l.crew.claims.now (told l.worker) l.running.items
+    × ((start : Books _ _ _) → Works means l.crew.hub.now l.crew.limit start (told l.initial.worker) l.initial.running.items → Works means l.crew.hub.now l.crew.limit start (told l.worker) l.running.items)
