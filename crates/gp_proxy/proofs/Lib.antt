@@ -4,3 +4,4 @@ pub mod Lines
 pub mod Noting
 pub mod Plays
 pub mod Saying
+pub mod Handing

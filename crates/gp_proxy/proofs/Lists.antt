@@ -36,11 +36,11 @@ position_more start (y ∷ ys) zero x e = let same : y ≡ x = cc e in ap (moved
 position_more start (y ∷ ys) (suc i) x e = position_more (moved start y) ys i x e
 
 -- the first item, and the rest
-pub first_rest : (xs : List Piece) (x : Piece) → Some x ≡ slice_get xs 0 → xs ≡ x ∷ drop 1 xs
+pub first_rest : {T : Type 0} (xs : List T) (x : T) → Some x ≡ slice_get xs 0 → xs ≡ x ∷ drop 1 xs
 first_rest [] x e = absurd_some (sym e)
-first_rest (y ∷ ys) x e = let same : x ≡ y = cc e in ap (λ z. z ∷ ys) (sym same)
+first_rest (y ∷ ys) x e = ap (λ z. z ∷ ys) (some_same y x (sym e))
 
-pub none_left : (xs : List Piece) → None ≡ slice_get xs 0 → xs ≡ []
+pub none_left : {T : Type 0} (xs : List T) → None ≡ slice_get xs 0 → xs ≡ []
 none_left [] e = refl
 none_left (y ∷ ys) e = absurd_some e
 

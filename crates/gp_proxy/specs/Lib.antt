@@ -10,3 +10,4 @@ pub mod Words
 pub mod Commands
 pub mod Runs
 pub mod ReportTexts
+pub mod Serves

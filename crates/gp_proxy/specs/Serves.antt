@@ -1,6 +1,7 @@
 -- What a server does once its routes are read: it makes kits, runs its workers, hands the kits back, and writes.
-use Rattle.std.specs.Prelude.{ℕ, ◌≡◌, ◌⊎◌, Bool, true, false, ◌||◌, List, [], ◌∷◌, ◌++◌, All, length, option_map}
+use Rattle.std.specs.Prelude.{ℕ, ◌≡◌, ◌⊎◌, Bool, true, false, List, ◌++◌, All, length, option_map}
 use mathlib.Core.List.{IsPrefix}
+use Rattle.std.specs.List.{list_any}
 use Rattle.gp_outside.specs.Devices.{SinkTells, WroteAll, WrotePart}
 use Rattle.gp_outside.specs.Kits.{KitParts}
 use Rattle.gp_outside.specs.Listens.{ListenTells}
@@ -14,14 +15,12 @@ use Rattle.gp_proxy.specs.declared.status.Status.{Status}
 use Rattle.gp_proxy.specs.declared.status.Status.TheVariants.{Done, Usage, FileFault, TooLong, BadLine, SinkFault, ListenFault, NoMemory}
 
 -- whether memory was wanting for a worker
-pub any_wanting : List WorkerReport → Bool
-any_wanting [] = false
-any_wanting (report ∷ reports) = report.no_memory || any_wanting reports
+abbrev pub any_wanting : List WorkerReport → Bool
+any_wanting reports = list_any (λ (report : WorkerReport). report.no_memory) reports
 
 -- whether a listener of a worker failed
-pub any_failed : List WorkerReport → Bool
-any_failed [] = false
-any_failed (report ∷ reports) = report.listen_failed || any_failed reports
+abbrev pub any_failed : List WorkerReport → Bool
+any_failed reports = list_any (λ (report : WorkerReport). report.listen_failed) reports
 
 module _ {F O C K : Type 0} where
   -- more kits were handed back, in order
@@ -67,7 +66,7 @@ module _ {F O C K : Type 0} where
   Leaves tells back reports before now TooLong = ⊥
   Leaves tells back reports before now (BadLine line) = ⊥
 
-module _ {O F C K Ln I G L D T : Type 0} where
+module _ {K Ln I G L D T : Type 0} where
   -- The workers ran: each over a kit that nothing was done with before, all on one hub. This is what they report, and these
   -- are their kits afterwards.
   pub record HaveRun (parts : K → KitParts Ln I G L D T) (tells : Ln → ListenTells) (means : Means L D T) (workers limit : ℕ) (start : HubView) (back : List K) (reports : List WorkerReport) : Type 0 where
@@ -77,6 +76,7 @@ module _ {O F C K Ln I G L D T : Type 0} where
     pub last : HubView
     pub worked : HaveWorked parts tells means limit start last made back reports
 
+module _ {F O C K Ln I G L D T : Type 0} where
   -- the workers ran and left this by the status, or a kit couldn't be made, or memory was wanting before they began
   abbrev pub Serves : (O → SinkTells) → (K → KitParts Ln I G L D T) → (Ln → ListenTells) → Means L D T → ℕ → ℕ → HubView → WorldParts F O C K → WorldParts F O C K → Status → Type 0
   Serves out parts tells means workers limit start before now status =

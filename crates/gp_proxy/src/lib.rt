@@ -14,6 +14,7 @@ mod replays;
 mod report;
 mod script;
 mod status;
+mod server;
 mod words;
 
 pub use command::run;

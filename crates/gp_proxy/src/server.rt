@@ -48,7 +48,10 @@ fn hand_over<W: World>(world: &mut W, kits: Vec<W::Kit>) -> Result<(), AllocErro
 {
     let mut kits = Queue::from_vec(kits);
     while let Some(kit) = kits.take_first() {
-        world.over(kit)?;
+        match world.over(kit) {
+            Ok(()) => {}
+            Err(refused) => return Err(refused),
+        }
     }
     Ok(())
 }
