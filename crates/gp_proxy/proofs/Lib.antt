@@ -5,3 +5,4 @@ pub mod Noting
 pub mod Plays
 pub mod Saying
 pub mod Handing
+pub mod Serving
