@@ -1,5 +1,5 @@
 -- The moves of an exchange that expects a head.
-use Rattle.std.proofs.Common.{◌≡◌, ℕ, ◌+◌, ◌-◌, ◌*◌, ◌<◌, ◌≤◌, ◌⊎◌, true, false, inl, inr, List, [], ◌++◌, length, None, sym, ap, ◌∙◌, subst, arith, append-nil, length-append}
+use Rattle.std.proofs.Common.{◌≡◌, ℕ, ◌+◌, ◌-◌, ◌*◌, ◌<◌, ◌≤◌, ◌⊎◌, true, false, inl, inr, List, [], ◌++◌, length, Some, None, refl, sym, ap, ◌∙◌, subst, arith, append-nil, length-append}
 use Rattle.std.proofs.lemmas.Bool.{cases_lt}
 use Rattle.gp_plain.specs.declared.http.Response.{Response}
 use Rattle.gp_head.specs.declared.read.HeadRead.TheVariants.{More as Open}
@@ -10,7 +10,9 @@ use Rattle.gp_outside.specs.Talks.{Talk, came}
 use Rattle.gp_exchange.specs.Views.{AskedView}
 use Rattle.gp_exchange.specs.Heads.{HeadsSoFar}
 use Rattle.gp_exchange.specs.Hearing.{Comes}
-use Rattle.gp_exchange.specs.Answers.{told}
+use Rattle.std.specs.Prelude.{option_map}
+use Rattle.std.specs.declared.snapshot.Snapshot.{Snapshot}
+use Rattle.gp_exchange.specs.Answers.{told, head_of}
 use Rattle.gp_exchange.specs.Ends.{Reads, Ends, EndsBy}
 use Rattle.gp_exchange.specs.Finds.{Goes, IsHeadEnd}
 use Rattle.gp_exchange.specs.Standing.{IsHeading, IsReading, StandsAt}
@@ -28,23 +30,26 @@ use Rattle.gp_exchange.proofs.Interim.{open_short}
 use Rattle.gp_exchange.proofs.Talking.{told_on, told_same, HangsUp, present_came, present_stays, heading_came, heading_ends}
 use Rattle.gp_exchange.proofs.Leading.{EndGives, leads_over}
 
+head_none : (over : Over) → over.head ≡ None → head_of (place.Over over) ≡ None
+head_none over none = ap (option_map (λ (head : Snapshot Response). head.value)) none
+
 module _ (asked : AskedView) (h : Heading) (old now new : DialTells) where
   -- an end without more bytes
-  pub heading_over : (over : Over) (next : Next) → next.place ≡ place.Over over → next.progress ≡ told over.last → new ≡ after_hang_up now → DialLater old now → now.talks ≡ old.talks
+  pub heading_over : (over : Over) (next : Next) → over.head ≡ None → next.place ≡ place.Over over → next.progress ≡ told over.last → new ≡ after_hang_up now → DialLater old now → now.talks ≡ old.talks
       → EndGives (place.Heading h) old now over.last → (over.ended ≡ true → Rose old.ends now.ends)
       → ((received : List ℕ) → HeadsSoFar received h → Ends asked over [] received)
       → Leads asked (place.Heading h) old new next
-  heading_over over next e f hung later same gives marked cause =
-      leads_over asked (place.Heading h) old now new over next e f hung (omega arith) later gives marked
+  heading_over over next none e f hung later same gives marked cause =
+      leads_over asked (place.Heading h) old now new over next (head_none over none) e f hung (omega arith) later gives marked
       (λ before given s. told_same (IsHeading asked before given h) (HangsUp asked before given over) old.talks now.talks same
       (λ talks at. heading_ends asked before given [] h over talks talks (λ sent received. present_stays asked before sent received talks)
       (λ received heads. subst (λ (x : List ℕ). Ends asked over [] x) (sym (append-nil received)) (cause received heads)) at) s)
 
   -- bytes that came are lost
-  pub heading_lost : (more : List ℕ) (over : Over) (next : Next) → next.place ≡ place.Over over → next.progress ≡ told over.last → new ≡ after_hang_up now → DialLater old now → Comes old now more
+  pub heading_lost : (more : List ℕ) (over : Over) (next : Next) → over.head ≡ None → next.place ≡ place.Over over → next.progress ≡ told over.last → new ≡ after_hang_up now → DialLater old now → Comes old now more
       → over.last ≡ NoMemory → over.ended ≡ false → Leads asked (place.Heading h) old new next
-  heading_lost more over next e f hung later comes memory mark =
-      leads_over asked (place.Heading h) old now new over next e f hung (omega arith) later (rw memory tt) (λ m. (let never : true ≡ false = sym m ∙ mark in cc))
+  heading_lost more over next none e f hung later comes memory mark =
+      leads_over asked (place.Heading h) old now new over next (head_none over none) e f hung (omega arith) later (rw memory tt) (λ m. (let never : true ≡ false = sym m ∙ mark in cc))
       (λ before given s. told_on (IsHeading asked before given h) (HangsUp asked before given over) (came more) old.talks now.talks comes.talks
       (λ talks at. heading_ends asked before given more h over talks (came more talks) (λ sent received. present_came asked before sent received more talks)
       (λ received heads. subst (λ (l : Last). EndsBy asked l over.ended over.head [] (received ++ more)) (sym memory) tt) at) s)
@@ -55,7 +60,7 @@ module _ (asked : AskedView) (h : Heading) (old now new : DialTells) where
         → EndGives (place.Heading h) old now last → ((received : List ℕ) → HeadsSoFar received g → EndsBy asked last false None [] received)
         → Leads asked (place.Heading h) old new next
     found_end last over next is e f hung gives cause =
-        leads_over asked (place.Heading h) old now new (record { last = last; ended = false; head = None }) next (e ∙ ap (λ (o : Over). place.Over o) is) (f ∙ ap (λ (o : Over). told o.last) is) hung (omega arith) later gives (λ m. cc)
+        leads_over asked (place.Heading h) old now new (record { last = last; ended = false; head = None }) next refl (e ∙ ap (λ (o : Over). place.Over o) is) (f ∙ ap (λ (o : Over). told o.last) is) hung (omega arith) later gives (λ m. cc)
         (λ before given s. told_on (IsHeading asked before given h) (HangsUp asked before given (record { last = last; ended = false; head = None })) (came more) old.talks now.talks comes.talks
         (λ talks at. heading_ends asked before given [] g (record { last = last; ended = false; head = None }) (came more talks) (came more talks) (λ sent received. present_stays asked before sent received (came more talks))
         (λ received heads. subst (λ (x : List ℕ). EndsBy asked last false None [] x) (sym (append-nil received)) (cause received heads))
@@ -69,6 +74,7 @@ module _ (asked : AskedView) (h : Heading) (old now new : DialTells) where
       later = later;
       gives = (omega arith, is);
       marked = λ mark. cc;
+      heads = ap Some is;
       stands = λ before given s. told_on (IsHeading asked before given h) (IsReading asked before (given ++ []) reading) (came more) old.talks now.talks comes.talks
           (λ talks at.
           let s' = heading_came asked before given more h g talks same grown at in

@@ -1,11 +1,12 @@
 -- How moves lead on from one another.
 use Rattle.std.proofs.Common.{◌≡◌, ℕ, ◌<◌, ◌≤◌, ◌⊎◌, inl, inr, Bool, true, List, [], ◌++◌, sym, ap, ◌∙◌, refl, subst, arith, append-nil}
-use Rattle.std.specs.Prelude.{IfSome, option_map, ⊤}
+use Rattle.std.specs.Prelude.{IfSome, Option, option_map, ⊤}
+use Rattle.gp_plain.specs.declared.http.Response.{Response}
 use Rattle.gp_outside.specs.Counts.{Rose}
 use Rattle.gp_outside.specs.Dials.{DialTells, DialLater, after_hang_up}
 use Rattle.gp_outside.specs.Talks.{Talk, hung_up}
 use Rattle.gp_exchange.specs.Views.{AskedView}
-use Rattle.gp_exchange.specs.Answers.{told, rank, FaultRises, Gives}
+use Rattle.gp_exchange.specs.Answers.{told, rank, FaultRises, Gives, head_of, head_after}
 use Rattle.gp_exchange.specs.Standing.{IsOver, IsAt, StandsAt, part_of}
 use Rattle.gp_exchange.specs.Moves.{Leads, StaysOver}
 use Rattle.gp_exchange.specs.declared.answer.ExchangeFault.{ExchangeFault}
@@ -38,7 +39,7 @@ later_hung_up a b h = record { faults = h.faults; connect_waits = h.connect_wait
 
 -- ---- a move behind others
 
-module _ (asked : AskedView) (was mid : Place) (old now new : DialTells) (later : DialLater old now) (onward : rank was ≤ rank mid) (near : (rank mid < 4) ⊎ (rank was ≡ rank mid)) (live : rank mid < 5) where
+module _ (asked : AskedView) (was mid : Place) (old now new : DialTells) (later : DialLater old now) (onward : rank was ≤ rank mid) (near : (rank mid < 4) ⊎ (rank was ≡ rank mid)) (live : rank mid < 5) (same : head_of mid ≡ head_of was) where
   fault_before : (fault : ExchangeFault) → FaultRises fault mid now new → FaultRises fault was old new
   fault_before Dial rises = λ _. rose_from _ _ _ later.faults (rises live)
   fault_before BadHead rises = tt
@@ -65,6 +66,7 @@ module _ (asked : AskedView) (was mid : Place) (old now new : DialTells) (later 
     later = later_later old now new later leads.later;
     gives = gives_before next.place next.progress leads.gives;
     marked = λ mark less. rose_from _ _ _ later.ends (leads.marked mark live);
+    heads = leads.heads ∙ ap (λ (h : Option Response). head_after h next.progress) same;
     stands = λ before given s. leads.stands before given (stands before given s);
     over = λ over. absurd (omega (arith, over, onward, live));
   }
@@ -97,7 +99,13 @@ no_part LastNoMemory = refl
 pub next_is : (next : Next) (p : Place) (progress : Progress) → next.place ≡ p → next.progress ≡ progress → ◌≡◌ {A = Next} (record { place = p; progress = progress }) next
 next_is next p progress e f = rw (← e, ← f) refl
 
-module _ (asked : AskedView) (was : Place) (old now new : DialTells) (over : Over) (next : Next) where
+-- an end gives no head
+pub no_head : (given : Option Response) (last : Last) → head_after given (told last) ≡ given
+no_head given LastEnd = refl
+no_head given (LastFault fault) = refl
+no_head given LastNoMemory = refl
+
+module _ (asked : AskedView) (was : Place) (old now new : DialTells) (over : Over) (next : Next) (same : head_of (place.Over over) ≡ head_of was) where
   ends_there : rank was < 5 → DialLater old now → EndGives was old now over.last → (over.ended ≡ true → Rose old.ends now.ends)
       → ((before : List Talk) (given : List ℕ) → StandsAt asked before given was old.talks → IfSome now.talks (HangsUp asked before given over))
       → Leads asked was old (after_hang_up now) (record { place = place.Over over; progress = told over.last })
@@ -107,6 +115,7 @@ module _ (asked : AskedView) (was : Place) (old now new : DialTells) (over : Ove
     later = later_hung_up old now later;
     gives = end_gives was old now over.last over.ended over refl gives;
     marked = λ mark less. marked mark;
+    heads = same ∙ sym (no_head (head_of was) over.last);
     stands = λ before given s.
         told_on (HangsUp asked before given over) (IsAt asked before (given ++ part_of (told over.last)) (place.Over over)) hung_up now.talks (option_map hung_up now.talks) refl
         (λ talks h. subst (λ (x : List ℕ). IsOver asked before x over (hung_up talks)) (sym (ap (λ (x : List ℕ). given ++ x) (no_part over.last) ∙ append-nil given)) (hangs_up asked before given over talks h))

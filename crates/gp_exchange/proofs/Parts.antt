@@ -9,7 +9,10 @@ use Rattle.gp_outside.specs.Dials.{DialTells, DialLater, after_hang_up}
 use Rattle.gp_outside.specs.Talks.{Talk, Talks, came}
 use Rattle.gp_exchange.specs.Views.{AskedView}
 use Rattle.gp_exchange.specs.Hearing.{Comes, ReadsOn}
-use Rattle.gp_exchange.specs.Answers.{told}
+use Rattle.std.specs.Prelude.{option_map}
+use Rattle.std.specs.declared.snapshot.Snapshot.{Snapshot}
+use Rattle.gp_plain.specs.declared.http.Response.{Response}
+use Rattle.gp_exchange.specs.Answers.{told, head_of}
 use Rattle.gp_exchange.specs.Ends.{Reads, Ends, EndsBy, IsBodyEnd, last_of, last_by}
 use Rattle.gp_exchange.specs.Standing.{IsReading, StandsAt}
 use Rattle.gp_exchange.specs.Moves.{Leads}
@@ -25,22 +28,25 @@ use Rattle.gp_exchange.proofs.Talking.{told_on, told_same, HangsUp, present_came
 use Rattle.gp_exchange.proofs.Leading.{EndGives, leads_over, later_same}
 
 module _ (asked : AskedView) (r : Reading) (none : r.part ≡ []) (old now new : DialTells) where
+  head_ends : (over : Over) → over.head ≡ Some r.head → head_of (place.Over over) ≡ head_of (place.Reading r)
+  head_ends over given = ap (option_map (λ (head : Snapshot Response). head.value)) given
+
   -- an end by the bytes that came
-  pub reading_over : (over : Over) (next : Next) → next.place ≡ place.Over over → next.progress ≡ told over.last → new ≡ after_hang_up now → DialLater old now → now.talks ≡ old.talks
+  pub reading_over : (over : Over) (next : Next) → over.head ≡ Some r.head → next.place ≡ place.Over over → next.progress ≡ told over.last → new ≡ after_hang_up now → DialLater old now → now.talks ≡ old.talks
       → EndGives (place.Reading r) old now over.last → (over.ended ≡ true → Rose old.ends now.ends)
       → ((given received : List ℕ) → Reads asked r.head.value r.reader given received → Ends asked over given received)
       → Leads asked (place.Reading r) old new next
-  reading_over over next e f hung later same gives marked cause =
-      leads_over asked (place.Reading r) old now new over next e f hung (omega arith) later gives marked
+  reading_over over next given e f hung later same gives marked cause =
+      leads_over asked (place.Reading r) old now new over next (head_ends over given) e f hung (omega arith) later gives marked
       (λ before given s. told_same (IsReading asked before given r) (HangsUp asked before given over) old.talks now.talks same
       (λ talks at. reading_ends asked before given [] r over talks talks none (λ sent received. present_stays asked before sent received talks)
       (λ received reads. subst (λ (x : List ℕ). Ends asked over given x) (sym (append-nil received)) (cause given received reads)) at) s)
 
   -- bytes that came are lost
-  pub reading_lost : (more : List ℕ) (over : Over) (next : Next) → next.place ≡ place.Over over → next.progress ≡ told over.last → new ≡ after_hang_up now → DialLater old now → Comes old now more
+  pub reading_lost : (more : List ℕ) (over : Over) (next : Next) → over.head ≡ Some r.head → next.place ≡ place.Over over → next.progress ≡ told over.last → new ≡ after_hang_up now → DialLater old now → Comes old now more
       → over.last ≡ NoMemory → over.ended ≡ false → Leads asked (place.Reading r) old new next
-  reading_lost more over next e f hung later comes memory mark =
-      leads_over asked (place.Reading r) old now new over next e f hung (omega arith) later (rw memory tt) (λ m. (let never : true ≡ false = sym m ∙ mark in cc))
+  reading_lost more over next given e f hung later comes memory mark =
+      leads_over asked (place.Reading r) old now new over next (head_ends over given) e f hung (omega arith) later (rw memory tt) (λ m. (let never : true ≡ false = sym m ∙ mark in cc))
       (λ before given s. told_on (IsReading asked before given r) (HangsUp asked before given over) (came more) old.talks now.talks comes.talks
       (λ talks at. reading_ends asked before given more r over talks (came more talks) none (λ sent received. present_came asked before sent received more talks)
       (λ received reads. subst (λ (l : Last). EndsBy asked l over.ended over.head given (received ++ more)) (sym memory) tt) at) s)
@@ -60,6 +66,7 @@ module _ (asked : AskedView) (r : Reading) (none : r.part ≡ []) (old now new :
     later = later;
     gives = (some, refl, refl);
     marked = λ mark. cc;
+    heads = ap (λ (s : Snapshot Response). Some s.value) head;
     stands = stands_on r' part more head none' comes on;
     over = λ over. absurd (omega arith);
   }
@@ -99,6 +106,7 @@ gives_kept asked r r' dial head reader none some = record {
   later = later_same dial;
   gives = (some, refl, refl);
   marked = λ mark. cc;
+  heads = ap (λ (s : Snapshot Response). Some s.value) head;
   stands = λ before given s. told_same (IsReading asked before given r) (IsReading asked before (given ++ r.part) r') dial.talks dial.talks refl
       (λ talks at. record {
         received = at.received;

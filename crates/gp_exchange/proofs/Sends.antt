@@ -53,7 +53,7 @@ module _ (asked : AskedView) (s : Sending) (kept : s.request ≡ asked.request) 
       → Rose old.faults now.faults → Leads asked (place.Sending s) old new next
   sending_over over next is e f hung later same rose =
       let failed : Over = record { last = Fault Dial; ended = false; head = None } in
-      leads_over asked (place.Sending s) old now new failed next (e ∙ ap (λ (o : Over). place.Over o) is) (f ∙ ap (λ (o : Over). told o.last) is) hung (omega arith) later (λ less. rose) (λ m. cc)
+      leads_over asked (place.Sending s) old now new failed next refl (e ∙ ap (λ (o : Over). place.Over o) is) (f ∙ ap (λ (o : Over). told o.last) is) hung (omega arith) later (λ less. rose) (λ m. cc)
       (λ before content stands. told_same (IsSending asked before content (take s.done asked.request)) (HangsUp asked before content failed) old.talks now.talks same
       (λ talks at. record {
         sent = take s.done asked.request;

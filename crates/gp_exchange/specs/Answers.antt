@@ -1,10 +1,11 @@
 -- What an answer of a poll says of the exchange and of the dialer's counts.
-use Rattle.std.specs.Prelude.{ℕ, ◌≡◌, ◌<◌, ◌≤◌, Bool, true, false, [], length, None}
+use Rattle.std.specs.Prelude.{ℕ, ◌≡◌, ◌<◌, ◌≤◌, Bool, true, false, [], length, Option, Some, None, option_map}
 use Rattle.gp_plain.specs.declared.http.Response.{Response}
 use Rattle.gp_head.specs.declared.read.HeadRead.TheVariants.{More as Open}
 use Rattle.gp_head.specs.Heads.{IsRead, IsResponseText}
 use Rattle.gp_outside.specs.Counts.{Rose}
 use Rattle.gp_outside.specs.Dials.{DialTells}
+use Rattle.std.specs.declared.snapshot.Snapshot.{Snapshot}
 use Rattle.gp_exchange.specs.Ends.{last_of}
 use Rattle.gp_exchange.specs.declared.answer.ExchangeFault.{ExchangeFault}
 use Rattle.gp_exchange.specs.declared.answer.ExchangeFault.TheVariants.{Dial, Head as BadHead, Interim, Plan, Body}
@@ -92,3 +93,21 @@ is_marked (Over over) = over.ended
 -- the mark that the input ended is set only where the dialer's ends rose
 abbrev pub Marked : Place → Place → DialTells → DialTells → Type 0
 Marked was is old now = is_marked is ≡ true → rank was < 5 → Rose old.ends now.ends
+
+-- the head that was given, where one was
+abbrev pub head_of : Place → Option Response
+head_of (Unbegun request) = None
+head_of (Connecting request) = None
+head_of (Sending sending) = None
+head_of (Heading heading) = None
+head_of (Reading reading) = Some reading.head.value
+head_of (Over over) = option_map (λ (head : Snapshot Response). head.value) over.head
+
+-- an answer gives a head, or leaves the one that was given
+abbrev pub head_after : Option Response → Progress → Option Response
+head_after given (Head head) = Some head
+head_after given (Part part) = given
+head_after given End = given
+head_after given NotReady = given
+head_after given (Fault fault) = given
+head_after given NoMemory = given

@@ -5,7 +5,7 @@ use Rattle.gp_head.specs.Heads.{IsRead, IsResponseText}
 use Rattle.gp_outside.specs.Dials.{DialTells, DialLater}
 use Rattle.gp_outside.specs.Talks.{Talk}
 use Rattle.gp_exchange.specs.Views.{AskedView}
-use Rattle.gp_exchange.specs.Answers.{rank, told, Gives, IsOverBy, Marked}
+use Rattle.gp_exchange.specs.Answers.{rank, told, Gives, IsOverBy, Marked, head_of, head_after}
 use Rattle.gp_exchange.specs.Standing.{part_of, StandsAt}
 use Rattle.gp_exchange.specs.declared.answer.Progress.{Progress}
 use Rattle.gp_exchange.specs.declared.answer.Last.{Last}
@@ -29,6 +29,7 @@ pub record Leads (asked : AskedView) (was : Place) (old now : DialTells) (next :
   pub later : DialLater old now
   pub gives : Gives was next.place old now next.progress
   pub marked : Marked was next.place old now
+  pub heads : head_of next.place ≡ head_after (head_of was) next.progress
   pub stands : (before : List Talk) (given : List ℕ) → StandsAt asked before given was old.talks → StandsAt asked before (given ++ part_of next.progress) next.place now.talks
   pub over : 5 ≤ rank was → (now ≡ old) × (next.place ≡ was)
 

@@ -1,5 +1,5 @@
 ghost use Rattle.std.specs.Prelude.{◌≡◌, ◌==◌, ◌++◌, [], IfSome, List, ℕ};
-ghost use Rattle.gp_exchange.specs.Answers.{Gives, Marked, rank};
+ghost use Rattle.gp_exchange.specs.Answers.{Gives, Marked, head_after, head_of, rank};
 ghost use Rattle.gp_exchange.specs.Standing.{Stands, Talked, part_of};
 ghost use Rattle.gp_exchange.specs.Moves.{IsKept, Leads, StaysOver};
 ghost use Rattle.gp_exchange.specs.declared.place.Place.TheVariants as place;
@@ -74,6 +74,7 @@ impl Exchange {
         ensures later { DialLater (D.tells dial.old) (D.tells dial.new) }
         ensures gives { Gives self.old.place self.new.place (D.tells dial.old) (D.tells dial.new) result }
         ensures marked { Marked self.old.place self.new.place (D.tells dial.old) (D.tells dial.new) }
+        ensures heads { head_of self.new.place ≡ head_after (head_of self.old.place) result }
         ensures over { StaysOver self.old.place self.new.place (D.tells dial.old) (D.tells dial.new) result }
         ensures stands { (before : List Talk) (given : List ℕ) → Stands before given self.old (D.tells dial.old) → Stands before (given ++ part_of result) self.new (D.tells dial.new) }
         ensures talked { (before : List Talk) (given : List ℕ) → Stands before given self.old (D.tells dial.old) → Talked before self.new (D.tells dial.new) }

@@ -1,6 +1,6 @@
 //! The origin's end of a session.
 ghost use Rattle.std.specs.Prelude.{◌≡◌, ◌++◌, List, ℕ};
-ghost use Rattle.gp_exchange.specs.Answers.{Gives, Marked, rank};
+ghost use Rattle.gp_exchange.specs.Answers.{Gives, Marked, head_after, head_of, rank};
 ghost use Rattle.gp_exchange.specs.Moves.{StaysOver};
 ghost use Rattle.gp_exchange.specs.Standing.{part_of};
 ghost use Rattle.gp_session.specs.Lines.{Aim, LineRow, MovedLine, hung, new_line, speaking};
@@ -43,6 +43,7 @@ impl<D: Dial> Line<D> {
         ensures asked { exchange.new.asked ≡ exchange.old.asked }
         ensures gives { Gives exchange.old.place exchange.new.place self.old.dial self.new.dial result }
         ensures marked { Marked exchange.old.place exchange.new.place self.old.dial self.new.dial }
+        ensures heads { head_of exchange.new.place ≡ head_after (head_of exchange.old.place) result }
         ensures over { StaysOver exchange.old.place exchange.new.place self.old.dial self.new.dial result }
         ensures row { (aims : List Aim) (given : List ℕ) → LineRow self.old aims (speaking (record { exchange = exchange.old; given = given })) → LineRow self.new aims (speaking (record { exchange = exchange.new; given = given ++ part_of result })) }
     {

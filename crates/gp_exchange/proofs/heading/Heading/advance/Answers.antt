@@ -32,7 +32,7 @@ returns-in-Head g c =
     let now = g.D.Dial.tells c.receive.new.dial in
     let came : Heading = record { bytes = c.receive.new.self; interim = h.interim } in
     let heard = c.in-Bytes.ensures.heard in
-    leads_before c.args.asked.now (place.Heading c.args.self) (place.Heading h) (g.D.Dial.tells c.args.dial.now) at now c.loop-self.invariant.later (omega arith) (inr refl) (omega arith) _ c.loop-self.invariant.stands
+    leads_before c.args.asked.now (place.Heading c.args.self) (place.Heading h) (g.D.Dial.tells c.args.dial.now) at now c.loop-self.invariant.later (omega arith) (inr refl) (omega arith) refl _ c.loop-self.invariant.stands
     (gives_head c.args.asked.now h at now at came heard.0 c.in-Bytes.ensures.later heard.1 refl heard.2 c.in-Head.head c.in-Head.reading c.in-Head.ensures.finds c.in-Head.ensures.found)
 
 pub returns-in-Over : goal.returns-in-Over
@@ -42,6 +42,6 @@ returns-in-Over g c =
     let now = g.D.Dial.tells c.receive.new.dial in
     let came : Heading = record { bytes = c.receive.new.self; interim = h.interim } in
     let heard = c.in-Bytes.ensures.heard in
-    leads_before c.args.asked.now (place.Heading c.args.self) (place.Heading h) (g.D.Dial.tells c.args.dial.now) at (g.D.Dial.tells c.hang_up.new.dial) c.loop-self.invariant.later (omega arith) (inr refl) (omega arith) c.hang_up.result c.loop-self.invariant.stands
+    leads_before c.args.asked.now (place.Heading c.args.self) (place.Heading h) (g.D.Dial.tells c.args.dial.now) at (g.D.Dial.tells c.hang_up.new.dial) c.loop-self.invariant.later (omega arith) (inr refl) (omega arith) refl c.hang_up.result c.loop-self.invariant.stands
     (found_end c.args.asked.now h at now (g.D.Dial.tells c.hang_up.new.dial) came heard.0 c.in-Bytes.ensures.later heard.1 refl heard.2 c.in-Over.last c.before_head.result c.hang_up.result c.before_head.ensures
     c.hang_up.ensures.place c.hang_up.ensures.progress c.hang_up.ensures.dial (head_gives h at now c.in-Over.last c.in-Over.ensures.finds) c.in-Over.ensures.found)

@@ -16,8 +16,8 @@ returns-in-Some g c = λ asked.
     let at = g.D.Dial.tells c.loop-last.dial in
     let over : Over = record { last = c.in-Some.last; ended = false; head = Some r.head } in
     let met = sym c.last.ensures ∙ c.in-Some.is in
-    leads_before asked (place.Reading c.args.self) (place.Reading r) (g.D.Dial.tells c.args.dial.now) at (g.D.Dial.tells c.hang_up.new.dial) c.loop-last.invariant.later (omega arith) (inr refl) (omega arith) c.hang_up.result (c.loop-last.invariant.stands asked)
-    (reading_over asked r c.loop-last.invariant.part at at (g.D.Dial.tells c.hang_up.new.dial) over c.hang_up.result
+    leads_before asked (place.Reading c.args.self) (place.Reading r) (g.D.Dial.tells c.args.dial.now) at (g.D.Dial.tells c.hang_up.new.dial) c.loop-last.invariant.later (omega arith) (inr refl) (omega arith) c.loop-last.invariant.head c.hang_up.result (c.loop-last.invariant.stands asked)
+    (reading_over asked r c.loop-last.invariant.part at at (g.D.Dial.tells c.hang_up.new.dial) over c.hang_up.result refl
     (c.hang_up.ensures.place ∙ ap (λ (o : Over). place.Over o) c.over.ensures) (c.hang_up.ensures.progress ∙ ap (λ (o : Over). told o.last) c.over.ensures) c.hang_up.ensures.dial
     (later_same at) refl (met_gives r r.reader at at c.in-Some.last met) (λ mark. cc) (λ given received reads. met_end asked r.head r.reader given received reads c.in-Some.last met))
 
@@ -29,7 +29,7 @@ returns-then-len-gt0 g c = λ asked.
     let heard = c.in-Bytes.ensures.heard in
     let on = from_none r.reader c.read_body.new.reader c.new-part.result.items c.read_body.new.part.items c.from_vec-part.result heard.0 c.new-part.ensures.items c.from_vec-part.ensures heard.2 in
     let some : 0 < length c.from_vec-part.result = omega (arith, c.len.ensures) in
-    leads_before asked (place.Reading c.args.self) (place.Reading r) (g.D.Dial.tells c.args.dial.now) at now c.loop-last.invariant.later (omega arith) (inr refl) (omega arith) _ (c.loop-last.invariant.stands asked)
+    leads_before asked (place.Reading c.args.self) (place.Reading r) (g.D.Dial.tells c.args.dial.now) at now c.loop-last.invariant.later (omega arith) (inr refl) (omega arith) c.loop-last.invariant.head _ (c.loop-last.invariant.stands asked)
     (gives_part asked r c.loop-last.invariant.part at now at (record { head = r.head; reader = c.read_body.new.reader; part = r.part }) c.from_vec-part.result heard.0 refl c.loop-last.invariant.part heard.1 on some c.in-Bytes.ensures.later)
 
 pub returns-in-End : goal.returns-in-End
@@ -38,8 +38,8 @@ returns-in-End g c = λ asked.
     let at = g.D.Dial.tells c.loop-last.dial in
     let now = g.D.Dial.tells c.read_body.new.dial in
     let heard = c.in-End.ensures.heard in
-    leads_before asked (place.Reading c.args.self) (place.Reading r) (g.D.Dial.tells c.args.dial.now) at (g.D.Dial.tells c.hang_up-in-End.new.dial) c.loop-last.invariant.later (omega arith) (inr refl) (omega arith) c.hang_up-in-End.result (c.loop-last.invariant.stands asked)
-    (reading_over asked r c.loop-last.invariant.part at now (g.D.Dial.tells c.hang_up-in-End.new.dial) c.finish.result c.hang_up-in-End.result
+    leads_before asked (place.Reading c.args.self) (place.Reading r) (g.D.Dial.tells c.args.dial.now) at (g.D.Dial.tells c.hang_up-in-End.new.dial) c.loop-last.invariant.later (omega arith) (inr refl) (omega arith) c.loop-last.invariant.head c.hang_up-in-End.result (c.loop-last.invariant.stands asked)
+    (reading_over asked r c.loop-last.invariant.part at now (g.D.Dial.tells c.hang_up-in-End.new.dial) c.finish.result c.hang_up-in-End.result c.finish.ensures.head
     c.hang_up-in-End.ensures.place c.hang_up-in-End.ensures.progress c.hang_up-in-End.ensures.dial c.in-End.ensures.later heard.0.0 (body_gives r at now c.finish.result.last c.finish.ensures.last) (λ mark. heard.0.1)
     (λ given received reads. c.finish.ensures.ends asked given received (rw heard.1 reads)))
 
@@ -50,8 +50,8 @@ returns-in-NoMemory g c = λ asked.
     let now = g.D.Dial.tells c.read_body.new.dial in
     let over : Over = record { last = NoMemory; ended = false; head = Some r.head } in
     let heard = c.in-NoMemory.ensures.heard in
-    leads_before asked (place.Reading c.args.self) (place.Reading r) (g.D.Dial.tells c.args.dial.now) at (g.D.Dial.tells c.hang_up-in-NoMemory.new.dial) c.loop-last.invariant.later (omega arith) (inr refl) (omega arith) c.hang_up-in-NoMemory.result (c.loop-last.invariant.stands asked)
-    (reading_lost asked r c.loop-last.invariant.part at now (g.D.Dial.tells c.hang_up-in-NoMemory.new.dial) heard.0 over c.hang_up-in-NoMemory.result
+    leads_before asked (place.Reading c.args.self) (place.Reading r) (g.D.Dial.tells c.args.dial.now) at (g.D.Dial.tells c.hang_up-in-NoMemory.new.dial) c.loop-last.invariant.later (omega arith) (inr refl) (omega arith) c.loop-last.invariant.head c.hang_up-in-NoMemory.result (c.loop-last.invariant.stands asked)
+    (reading_lost asked r c.loop-last.invariant.part at now (g.D.Dial.tells c.hang_up-in-NoMemory.new.dial) heard.0 over c.hang_up-in-NoMemory.result refl
     (c.hang_up-in-NoMemory.ensures.place ∙ ap (λ (o : Over). place.Over o) c.over-in-NoMemory.ensures) (c.hang_up-in-NoMemory.ensures.progress ∙ ap (λ (o : Over). told o.last) c.over-in-NoMemory.ensures)
     c.hang_up-in-NoMemory.ensures.dial c.in-NoMemory.ensures.later heard.1 refl refl)
 
@@ -73,6 +73,7 @@ loop-last-preserved g c =
     let on = from_none r.reader c.read_body.new.reader c.new-part.result.items c.read_body.new.part.items c.read_body.new.part.items heard.0 c.new-part.ensures.items refl heard.2 in
     record {
       part = c.loop-last.invariant.part;
+      head = c.loop-last.invariant.head;
       later = later_later _ at now c.loop-last.invariant.later c.in-Bytes.ensures.later;
       stands = λ asked before given s. on_without asked before given c.read_body.new.part.items _ now.talks none
           (stands_on asked r c.loop-last.invariant.part at now at (record { head = r.head; reader = c.read_body.new.reader; part = r.part }) c.read_body.new.part.items heard.0 refl c.loop-last.invariant.part heard.1 on before given (c.loop-last.invariant.stands asked before given s));

@@ -22,7 +22,7 @@ pub returns-in-Failed : goal.returns-in-Failed
 returns-in-Failed g c =
     let s = c.loop-self.self in
     let at = g.D.Dial.tells c.loop-self.dial in
-    leads_before c.args.asked.now (place.Sending c.args.self) (place.Sending s) (g.D.Dial.tells c.args.dial.now) at (g.D.Dial.tells c.hang_up.new.dial) c.loop-self.invariant.later (omega arith) (inl (omega arith)) (omega arith) c.hang_up.result c.loop-self.invariant.stands
+    leads_before c.args.asked.now (place.Sending c.args.self) (place.Sending s) (g.D.Dial.tells c.args.dial.now) at (g.D.Dial.tells c.hang_up.new.dial) c.loop-self.invariant.later (omega arith) (inl (omega arith)) (omega arith) refl c.hang_up.result c.loop-self.invariant.stands
     (sending_over c.args.asked.now s c.loop-self.invariant.kept.0 at (g.D.Dial.tells c.write.new.self) (g.D.Dial.tells c.hang_up.new.dial) c.before_head.result c.hang_up.result c.before_head.ensures
     c.hang_up.ensures.place c.hang_up.ensures.progress c.hang_up.ensures.dial c.in-Failed.ensures.later c.in-Failed.ensures.moved c.in-Failed.ensures.faulted)
 
@@ -34,7 +34,7 @@ pub returns : goal.returns
 returns g c =
     let s = c.loop-self.self in
     let at = g.D.Dial.tells c.loop-self.dial in
-    leads_before c.args.asked.now (place.Sending c.args.self) (place.Sending s) (g.D.Dial.tells c.args.dial.now) at (g.D.Dial.tells c.advance.new.dial) c.loop-self.invariant.later (omega arith) (inl (omega arith)) (omega arith) c.advance.result c.loop-self.invariant.stands
-    (leads_before c.args.asked.now (place.Sending s) (place.Heading c.new.result) at at (g.D.Dial.tells c.advance.new.dial) (later_same at) (omega arith) (inl (omega arith)) (omega arith) c.advance.result
+    leads_before c.args.asked.now (place.Sending c.args.self) (place.Sending s) (g.D.Dial.tells c.args.dial.now) at (g.D.Dial.tells c.advance.new.dial) c.loop-self.invariant.later (omega arith) (inl (omega arith)) (omega arith) refl c.advance.result c.loop-self.invariant.stands
+    (leads_before c.args.asked.now (place.Sending s) (place.Heading c.new.result) at at (g.D.Dial.tells c.advance.new.dial) (later_same at) (omega arith) (inl (omega arith)) (omega arith) refl c.advance.result
     (all_sent c.args.asked.now s c.loop-self.invariant.kept.0 at at at c.new.result c.new.ensures.bytes c.new.ensures.interim (omega (arith, c.len.ensures, c.loop-self-test.false)))
     c.advance.ensures)

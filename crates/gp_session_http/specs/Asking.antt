@@ -1,0 +1,148 @@
+-- What is asked of an origin for a client, and why an origin's answer can't be passed on.
+use Rattle.std.specs.Prelude.{◌≡◌, ◌≢◌, ℕ, ◌+◌, ◌-◌, ◌^◌, ◌<◌, ◌⊎◌, min, Bool, true, false, List, [], bytes_eq, codes, Option, Some, None, option_map, Result, Ok, Err, ⊤}
+use Rattle.gp_plain.specs.declared.http.Address.{Address}
+use Rattle.gp_plain.specs.declared.http.Request.{Request}
+use Rattle.gp_plain.specs.declared.http.Response.{Response}
+use Rattle.gp_plain.specs.declared.http.Signer.{Signer}
+use Rattle.gp_body.specs.declared.plan.BodyPlan.{BodyPlan}
+use Rattle.gp_body.specs.declared.plan.BodyPlan.TheVariants.{None as NoBody, Length, Chunked, ToClose}
+use Rattle.gp_body.specs.declared.plan.BodyFault.{BodyFault}
+use Rattle.gp_body.specs.Plans.{plan_of_request}
+use Rattle.gp_head.specs.Writable.{IsFieldValue}
+use Rattle.gp_sig.specs.Tokens.{token_of}
+use Rattle.gp_forward.specs.Alone.{IsForwarded}
+use Rattle.gp_forward.specs.Conditions.{CanAsk}
+use Rattle.gp_instruct.specs.declared.instruct.Instruct.{Instruct}
+use Rattle.gp_instruct.specs.declared.fault.InstructFault.{InstructFault}
+use Rattle.gp_instruct.specs.declared.fault.InstructFault.TheVariants.{NoMemory as OutOfMemory}
+use Rattle.gp_instruct.specs.Heads.{IsInstruct, IsInstructFault}
+use Rattle.gp_instruct_json.specs.Kinds.{has_type}
+use Rattle.gp_outside.specs.Counts.{Rose}
+use Rattle.gp_hub.specs.declared.outcome.Why.{Why}
+use Rattle.gp_hub.specs.declared.outcome.Why.TheVariants as why
+use Rattle.gp_exchange.specs.Views.{AskedView, ExchangeView}
+use Rattle.gp_exchange.specs.Answers.{rank, head_of, IsOverBy}
+use Rattle.gp_exchange.specs.declared.answer.ExchangeFault.{ExchangeFault}
+use Rattle.gp_exchange.specs.declared.answer.ExchangeFault.TheVariants as fault
+use Rattle.gp_exchange.specs.declared.answer.Last.TheVariants as last
+use Rattle.gp_exchange.specs.declared.place.Place.{Place}
+use Rattle.gp_exchange.specs.declared.place.Place.TheVariants.{Unbegun}
+use Rattle.gp_intake.specs.declared.body.Whole.{Whole}
+use Rattle.gp_session.specs.Lines.{LineView}
+use Rattle.gp_session_http.specs.declared.asked.Asked.{Asked}
+use Rattle.gp_session_http.specs.declared.verdict.Verdict.{Verdict}
+use Rattle.gp_session_http.specs.declared.verdict.Verdict.TheVariants.{Pass, Refuse, NoMemory}
+
+-- a request that was planned to have a body is forwarded with it
+abbrev pub body_sent : Result BodyPlan BodyFault → List ℕ → Option (List ℕ)
+body_sent (Ok NoBody) body = None
+body_sent (Ok (Length bytes)) body = Some body
+body_sent (Ok Chunked) body = Some body
+body_sent (Ok ToClose) body = Some body
+body_sent (Err fault) body = None
+
+-- a token counts for an hour
+abbrev pub expiry : ℕ → ℕ
+expiry now = min (now + 3600) (2 ^ 64 - 1)
+
+abbrev pub issuer : List ℕ
+issuer = codes "pushpin"
+
+-- the token of a request that is forwarded at a moment, where there is a key
+abbrev pub sig_at : Signer → ℕ → Option (List ℕ)
+sig_at signer now = option_map (λ (key : List ℕ). token_of key issuer (expiry now)) signer.key
+
+-- what is asked in the talk: the forwarded request, of the picked address, with the token of that moment; the response may have
+-- a body of any length
+pub record IsAskedFor (signer : Signer) (asked : Asked) (a : AskedView) : Type 0 where
+  pub to : a.to ≡ asked.address
+  pub request : IsForwarded asked.request.head (body_sent (plan_of_request asked.request.head) asked.request.body) asked.address (sig_at signer asked.now) [] a.request
+  pub method : a.method ≡ asked.request.head.method
+  pub limit : a.limit ≡ 2 ^ 64 - 1
+
+-- an exchange that has asked nothing yet
+pub record BeginsFor (signer : Signer) (asked : Asked) (x : ExchangeView) : Type 0 where
+  pub asks : IsAskedFor signer asked x.asked
+  pub unbegun : x.place ≡ Unbegun x.asked.request
+
+-- what can be asked
+pub record IsAskable (asked : Asked) : Type 0 where
+  pub request : CanAsk asked.request.head
+  pub host : IsFieldValue asked.address.host
+
+-- no head was given yet
+pub record ExpectsHead (x : ExchangeView) : Type 0 where
+  pub early : rank x.place < 4
+  pub none : head_of x.place ≡ None
+
+abbrev pub is_head : List ℕ → Bool
+is_head method = bytes_eq method (codes "HEAD")
+
+-- the fields of an answer ask for no hold, and for this status in place of its own
+abbrev pub AsksNoHold : Response → Option ℕ → Type 0
+AsksNoHold head status = (IsInstruct head.fields None × (status ≡ None)) ⊎ ((i : Instruct) × IsInstruct head.fields (Some i) × (i.mode ≡ None) × (status ≡ i.status))
+
+-- an answer to this method that is passed on, with its own status or this one; nothing is read of the instructions of an answer
+-- to HEAD
+pub record IsPassedWith (head : Response) (status : Option ℕ) : Type 0 where
+  pub plain : has_type head.fields ≡ false
+  pub asks : AsksNoHold head status
+
+abbrev pub IsPassed : List ℕ → Response → Option ℕ → Type 0
+IsPassed method head status = ((is_head method ≡ true) × (status ≡ None)) ⊎ ((is_head method ≡ false) × IsPassedWith head status)
+
+-- an answer that isn't passed on: its instruction is refused. So is one that asks for a hold, or for anything in its body, until
+-- holds are served
+abbrev pub IsInstructRefused : Response → Type 0
+IsInstructRefused head = (has_type head.fields ≡ true)
+    ⊎ (((f : InstructFault) × IsInstructFault head.fields f × (f ≢ OutOfMemory))
+    ⊎ ((i : Instruct) × IsInstruct head.fields (Some i) × (i.mode ≢ None)))
+
+abbrev pub IsVerdict : List ℕ → Response → Verdict → Type 0
+IsVerdict method head (Pass status) = IsPassed method head status
+IsVerdict method head Refuse = (is_head method ≡ false) × IsInstructRefused head
+IsVerdict method head NoMemory = ⊤
+
+-- the same where the answer isn't to HEAD
+abbrev pub IsReadVerdict : Response → Verdict → Type 0
+IsReadVerdict head (Pass status) = IsPassedWith head status
+IsReadVerdict head Refuse = IsInstructRefused head
+IsReadVerdict head NoMemory = ⊤
+
+-- a fault of the bytes that the origin sent
+abbrev pub IsOriginFault : ExchangeFault → Type 0
+IsOriginFault fault.Dial = ⊥
+IsOriginFault fault.Head = ⊤
+IsOriginFault fault.Interim = ⊤
+IsOriginFault (fault.Plan f) = ⊤
+IsOriginFault (fault.Body f) = ⊤
+
+-- before a head was given the dialer failed, or the bytes of the talk are no response
+pub record FailsByDial (l : LineView) (x : ExchangeView) : Type 0 where
+  pub over : IsOverBy (last.Fault fault.Dial) x.place
+  pub none : head_of x.place ≡ None
+  pub faults : Rose l.start.faults l.dial.faults
+
+pub record FailsByOrigin (x : ExchangeView) : Type 0 where
+  pub fault : ExchangeFault
+  pub over : IsOverBy (last.Fault fault) x.place
+  pub none : head_of x.place ≡ None
+  pub bytes : IsOriginFault fault
+
+-- the head that was given is refused
+pub record FailsByInstruct (method : List ℕ) (x : ExchangeView) : Type 0 where
+  pub head : Response
+  pub given : head_of x.place ≡ Some head
+  pub get : is_head method ≡ false
+  pub refused : IsInstructRefused head
+
+abbrev pub FailsBy : LineView → List ℕ → ExchangeView → Why → Type 0
+FailsBy l method x why.Nothing = ⊥
+FailsBy l method x why.Head = ⊥
+FailsBy l method x why.Body = ⊥
+FailsBy l method x why.Route = ⊥
+FailsBy l method x why.Dial = FailsByDial l x
+FailsBy l method x why.Origin = FailsByOrigin x
+FailsBy l method x why.Instruct = FailsByInstruct method x
+FailsBy l method x (why.Items place) = ⊥
+FailsBy l method x why.Full = ⊥

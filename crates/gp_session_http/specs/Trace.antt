@@ -1,0 +1,154 @@
+-- What a session says of its link, its dialer, its clock and its pass after every move, row by row. All is said since the session
+-- began.
+use Rattle.std.specs.Prelude.{◌≡◌, ℕ, ◌<◌, ◌⊎◌, true, false, List, [], ◌++◌, Option, Some, None, ⊤}
+use Rattle.gp_plain.specs.declared.reply.EndCause.{EndCause}
+use Rattle.gp_plain.specs.declared.reply.EndCause.TheVariants.{Closed, Detached, Gap, Unrecovered, Overflow, Answered, Retry, TimedOut}
+use Rattle.gp_outside.specs.Counts.{Rose}
+use Rattle.gp_outside.specs.Clocks.{ClockTells}
+use Rattle.gp_outside.specs.Dials.{DialTells, DialLater, IsIdle}
+use Rattle.gp_outside.specs.Links.{LinkTells, LinkLater}
+use Rattle.gp_answer.specs.declared.refusal.Refusal.TheVariants.{BadGateway}
+use Rattle.gp_hub.specs.Passes.{HubView}
+use Rattle.gp_hub.specs.Own.{mine}
+use Rattle.gp_exchange.specs.Views.{ExchangeView}
+use Rattle.gp_exchange.specs.Answers.{rank, head_of, IsOverBy}
+use Rattle.gp_exchange.specs.declared.answer.ExchangeFault.{ExchangeFault}
+use Rattle.gp_exchange.specs.declared.answer.Last.TheVariants as last
+use Rattle.gp_intake.specs.Heads.{IsBegun}
+use Rattle.gp_intake.specs.Requests.{IsHeaded}
+use Rattle.gp_session.specs.Wires.{RequestRow, BytesRow, exactly, new_wire}
+use Rattle.gp_session.specs.Lines.{Last, idle, speaking, hung, LineRow, new_line}
+use Rattle.gp_session.specs.Watches.{WatchView, WatchRow, new_watch}
+use Rattle.gp_session.specs.Seats.{SeatRow, HasNoHolds, IsServed as IsHubServed, Made, new_seat}
+use Rattle.gp_session_http.specs.declared.asked.Asked.{Asked}
+use Rattle.gp_session_http.specs.declared.passed.Passed.{Passed}
+use Rattle.gp_session_http.specs.declared.stage.Stage.{Stage}
+use Rattle.gp_session_http.specs.declared.stage.Stage.TheVariants.{ReadingHead, ReadingBody, Refusing, Asking, Failing, Passing, Finishing}
+use Rattle.gp_session_http.specs.Routing.{Charter, IsRouted, IsServed, IsRefusedFor, refusal_of, refusal_text}
+use Rattle.gp_session_http.specs.Asking.{IsAskedFor, ExpectsHead, FailsBy}
+use Rattle.gp_session_http.specs.Passing.{asked_of, origin_head, has_no_body, IsPassedOn, ArePartsOf, passed_text}
+use Rattle.gp_session_http.specs.Views.{LiveView}
+
+abbrev pub new_live : LinkTells → DialTells → ClockTells → HubView → Charter → LiveView
+new_live link dial clock pass charter = record { wire = new_wire link; line = new_line dial; watch = new_watch clock; seat = new_seat pass; charter = charter }
+
+-- Row: the request. What the bytes received are.
+abbrev pub Serves : Charter → Asked → List ℕ → Type 0
+Serves c asked received = IsServed c.rules asked.request asked.address received
+
+abbrev pub Asks : Charter → Stage → List ℕ → Type 0
+Asks c (ReadingHead s) received = (received ≡ s.intake) × IsBegun received
+Asks c (ReadingBody s) received = IsHeaded s.intake received × IsRouted c.rules s.intake.head s.intake.path s.address
+Asks c (Refusing s) received = IsRefusedFor c.rules s.cause s.method.value received
+Asks c (Asking s) received = Serves c s.asked received
+Asks c (Failing s) received = Serves c s.asked.value received
+Asks c (Passing s) received = Serves c (asked_of s.passed) received
+Asks c (Finishing s) received = Serves c (asked_of s.passed) received
+
+-- Row: the talks. The last exchange, with the content that it has given.
+abbrev pub last_of : Stage → List ℕ → Last
+last_of (ReadingHead s) given = idle
+last_of (ReadingBody s) given = idle
+last_of (Refusing s) given = idle
+last_of (Asking s) given = speaking (record { exchange = s.exchange; given = [] })
+last_of (Failing s) given = hung (record { exchange = s.exchange.value; given = [] })
+last_of (Passing s) given = speaking (record { exchange = s.exchange; given = given })
+last_of (Finishing s) given = hung (record { exchange = s.exchange.value; given = given })
+
+-- the talk's address and request are those of what was asked, with the token of its moment
+abbrev pub HasAim : Charter → Stage → Type 0
+HasAim c (ReadingHead s) = ⊤
+HasAim c (ReadingBody s) = ⊤
+HasAim c (Refusing s) = ⊤
+HasAim c (Asking s) = IsAskedFor c.signer s.asked s.exchange.asked
+HasAim c (Failing s) = IsAskedFor c.signer s.asked.value s.exchange.value.asked
+HasAim c (Passing s) = IsAskedFor c.signer (asked_of s.passed) s.exchange.asked
+HasAim c (Finishing s) = IsAskedFor c.signer (asked_of s.passed) s.exchange.value.asked
+
+-- a response that is passed on, whose body goes on
+pub record IsPassing (p : Passed) (x : ExchangeView) : Type 0 where
+  pub reading : rank x.place ≡ 4
+  pub head : head_of x.place ≡ Some (origin_head p)
+  pub on : IsPassedOn p
+  pub body : has_no_body p ≡ false
+
+-- such a response has ended: whole, or, where no body is sent, with its head; or it was cut by a fault of the talk
+abbrev pub HasEndedBy : EndCause → Passed → ExchangeView → Type 0
+HasEndedBy Closed p x = IsOverBy last.End x.place ⊎ (has_no_body p ≡ true)
+HasEndedBy Unrecovered p x = (fault : ExchangeFault) × IsOverBy (last.Fault fault) x.place
+HasEndedBy Detached p x = ⊥
+HasEndedBy Gap p x = ⊥
+HasEndedBy Overflow p x = ⊥
+HasEndedBy Answered p x = ⊥
+HasEndedBy Retry p x = ⊥
+HasEndedBy TimedOut p x = ⊥
+
+pub record IsPassedBy (p : Passed) (x : ExchangeView) (cause : EndCause) (parts : List (List ℕ)) : Type 0 where
+  pub head : head_of x.place ≡ Some (origin_head p)
+  pub on : IsPassedOn p
+  pub ended : HasEndedBy cause p x
+  pub bare : has_no_body p ≡ true → parts ≡ []
+
+-- what the exchange has come to
+abbrev pub IsAt : LiveView → Stage → List (List ℕ) → Type 0
+IsAt l (ReadingHead s) parts = ⊤
+IsAt l (ReadingBody s) parts = ⊤
+IsAt l (Refusing s) parts = ⊤
+IsAt l (Asking s) parts = ExpectsHead s.exchange
+IsAt l (Failing s) parts = FailsBy l.line s.asked.value.request.head.method s.exchange.value s.why
+IsAt l (Passing s) parts = IsPassing s.passed s.exchange
+IsAt l (Finishing s) parts = IsPassedBy s.passed s.exchange.value s.cause parts
+
+-- Row: the bytes. What was sent, followed by what waits, where the parts of a body were these.
+abbrev pub text_of : Stage → List (List ℕ) → List ℕ
+text_of (ReadingHead s) parts = []
+text_of (ReadingBody s) parts = []
+text_of (Refusing s) parts = refusal_text (refusal_of s.cause) s.method.value
+text_of (Asking s) parts = []
+text_of (Failing s) parts = refusal_text BadGateway s.asked.value.request.head.method
+text_of (Passing s) parts = passed_text s.passed parts None
+text_of (Finishing s) parts = passed_text s.passed parts (Some s.cause)
+
+-- Row: the times. The moment that was used, where one was.
+abbrev pub moment_of : Stage → Option ℕ
+moment_of (ReadingHead s) = None
+moment_of (ReadingBody s) = None
+moment_of (Refusing s) = None
+moment_of (Asking s) = Some s.asked.now
+moment_of (Failing s) = Some s.asked.value.now
+moment_of (Passing s) = Some (asked_of s.passed).now
+moment_of (Finishing s) = Some (asked_of s.passed).now
+
+-- the clock wasn't asked; or it was, in this session, and this is its last answer
+pub record IsUnasked (w : WatchView) : Type 0 where
+  pub clock : w.clock ≡ w.start
+  pub moment : w.moment ≡ None
+
+pub record WasAsked (w : WatchView) (now : ℕ) : Type 0 where
+  pub last : w.clock.last ≡ now
+  pub calls : Rose w.start.calls w.clock.calls
+
+abbrev pub TimesRow : WatchView → Option ℕ → Type 0
+TimesRow w None = IsUnasked w
+TimesRow w (Some now) = WasAsked w now
+
+-- Rows: the entries, the holds, and what no move of a session changes. It makes no entry and has no hold.
+pub record Stays (l : LiveView) : Type 0 where
+  pub entries : Made l.seat []
+  pub holds : HasNoHolds l.seat
+  pub seat : SeatRow l.seat
+  pub served : IsHubServed l.seat
+  pub links : LinkLater l.wire.start l.wire.link
+  pub dials : DialLater l.line.start l.line.dial
+
+pub record Told (l : LiveView) (stage : Stage) : Type 0 where
+  pub given : List ℕ
+  pub parts : List (List ℕ)
+  pub cut : ArePartsOf parts given
+  pub request : RequestRow l.wire (Asks l.charter stage)
+  pub talks : IsIdle l.line.start → LineRow l.line [] (last_of stage given)
+  pub aim : HasAim l.charter stage
+  pub at : IsAt l stage parts
+  pub bytes : BytesRow l.wire (exactly (text_of stage parts))
+  pub times : TimesRow l.watch (moment_of stage)
+  pub stays : Stays l

@@ -1,0 +1,29 @@
+-- What contracts see of a session's ends.
+use Rattle.std.specs.Prelude.{◌≡◌, ℕ, List, ◌++◌}
+use Rattle.gp_session.specs.Wires.{WireView, MovedWire, Sent}
+use Rattle.gp_session.specs.Lines.{LineView, MovedLine}
+use Rattle.gp_session.specs.Watches.{WatchView}
+use Rattle.gp_session.specs.Seats.{SeatView, MovedSeat}
+use Rattle.gp_session_http.specs.Routing.{Charter}
+
+pub record LiveView : Type 0 where
+  pub wire : WireView
+  pub line : LineView
+  pub watch : WatchView
+  pub seat : SeatView
+  pub charter : Charter
+
+-- what was said to the client grew by these bytes
+abbrev pub SaysMore : WireView → WireView → List ℕ → Type 0
+SaysMore v w more = (text : List ℕ) → Sent v text → Sent w (text ++ more)
+
+-- what every move keeps: how the session began, what it was made with, that no count fell, and that nothing that was said is
+-- taken back
+pub record Moved (v w : LiveView) : Type 0 where
+  pub wire : MovedWire v.wire w.wire
+  pub line : MovedLine v.line w.line
+  pub watch : w.watch.start ≡ v.watch.start
+  pub seat : MovedSeat v.seat w.seat
+  pub charter : w.charter ≡ v.charter
+  pub more : List ℕ
+  pub says : SaysMore v.wire w.wire more
