@@ -1,0 +1,9 @@
+//! What makes the sessions of a server: those of clients, and those of publishers.
+//!
+//! `specs/Meanings.antt` says what is meant by what a session leaves, with a case for each kind of session. It stands on the
+//! sessions, and on `gp_workers`, whose workers ask a maker for them.
+#![tactic(auto)]
+
+mod publisher;
+
+pub use publisher::Publishing;
