@@ -5,5 +5,3 @@
 #![tactic(auto)]
 
 mod publisher;
-
-pub use publisher::Publishing;

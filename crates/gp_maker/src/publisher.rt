@@ -1,14 +1,13 @@
 //! The session of a publisher, over the devices of a kit.
-ghost use Rattle.std.specs.Prelude.{◌≡◌, IfSome, None};
-ghost use Rattle.gp_hub.specs.Sessions.{HasPolled};
-ghost use Rattle.gp_maker.specs.Meanings.{GivesPublisher};
+ghost use Rattle.std.specs.Prelude.{◌≡◌, Some};
+ghost use Rattle.gp_session.specs.Seats.{IsFresh};
+ghost use Rattle.gp_session_publish.specs.Polls.{new_session};
 
 use gp_hub::{Hub, HubPass, Polled, Session};
-use gp_outside::{Kit, Link, Listen};
+use gp_outside::{Kit, Listen};
 use gp_session_publish::PublishSession;
 use gp_workers::{Finished, Over};
 use std::alloc::Global;
-use std::marker::Model;
 
 /// The session of a publisher. Its output has its link beside its outcome.
 #[derive(Drop)]
@@ -19,7 +18,7 @@ pub struct Publishing<'h, K: Kit> {
 impl<'h, K: Kit> Session for Publishing<'h, K> {
     type Output = Over<K>;
 
-    ghost use Rattle.std.specs.Prelude.{◌≡◌, IfSome};
+    ghost use Rattle.std.specs.Prelude.{IfSome};
     ghost use Rattle.gp_maker.specs.Meanings.{GivesPublisher, HasEndedPublisher};
 
     ghost ended = { λ s. HasEndedPublisher s.session };
@@ -43,6 +42,24 @@ impl<'h, K: Kit> Session for Publishing<'h, K> {
                 }),
                 None => unreachable!(),
             },
+        }
+    }
+}
+
+impl<'h, K: Kit> Publishing<'h, K> {
+    /// A session over a link. It takes no memory.
+    pub(crate) fn new(
+        alloc: Global,
+        hub: &'h Hub,
+        pass: HubPass,
+        link: <K::Listen as Listen>::Link,
+    ) -> Publishing<'h, K>
+        requires turn { pass.turn ≡ hub.now }
+        requires fresh { IsFresh pass }
+        ensures { result.session ≡ Some (new_session (K.Listen.Link.tells link) pass) }
+    {
+        Publishing {
+            session: Some(PublishSession::new(alloc, hub, pass, link)),
         }
     }
 }
