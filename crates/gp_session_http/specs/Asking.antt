@@ -117,6 +117,14 @@ IsOriginFault fault.Interim = ⊤
 IsOriginFault (fault.Plan f) = ⊤
 IsOriginFault (fault.Body f) = ⊤
 
+-- why there is no response
+abbrev pub why_failed : ExchangeFault → Why
+why_failed fault.Dial = why.Dial
+why_failed fault.Head = why.Origin
+why_failed fault.Interim = why.Origin
+why_failed (fault.Plan f) = why.Origin
+why_failed (fault.Body f) = why.Origin
+
 -- before a head was given the dialer failed, or the bytes of the talk are no response
 pub record FailsByDial (l : LineView) (x : ExchangeView) : Type 0 where
   pub over : IsOverBy (last.Fault fault.Dial) x.place

@@ -1,0 +1,56 @@
+//! A session that expects the head of its request.
+ghost use Rattle.gp_session_http.specs.Trace.{Told};
+ghost use Rattle.gp_session_http.specs.Moves.{IsHeadedAt, Leads};
+ghost use Rattle.gp_session_http.specs.declared.stage.Stage.TheVariants as stage;
+
+use crate::cause::{Cause, route_of};
+use crate::live::Live;
+use crate::reading_body::ReadingBody;
+use crate::stage::{Next, Stage, ended};
+use gp_hub::SessionEnd;
+use gp_intake::{BodyIntake, HeadIntake, HeadPolled};
+use gp_outside::{Clock, Dial, Link};
+
+/// Expects the rest of the request's head.
+#[derive(Drop)]
+pub(crate) struct ReadingHead {
+    pub(crate) intake: HeadIntake,
+}
+
+impl ReadingHead {
+    /// Reads, and picks a route once the head is there.
+    pub(crate) fn advance<'h, L: Link, D: Dial, C: Clock>(
+        self,
+        live: &mut Live<'h, L, D, C>,
+    ) -> Next
+        requires told { Told live.old (stage.ReadingHead self) }
+        ensures leads { Leads live.old live.new 5 result }
+    {
+        match live.wire.read_head(self.intake) {
+            HeadPolled::Head(intake) => routed(live, intake),
+            HeadPolled::Refused(refused) => {
+                live.refuse(Cause::Request(refused.fault), &refused.method)
+            }
+            HeadPolled::NotReady(intake) => Next::Wait(Stage::ReadingHead(ReadingHead { intake })),
+            HeadPolled::ClientGone => Next::End(ended(SessionEnd::ClientGone)),
+            HeadPolled::NoMemory => Next::End(ended(SessionEnd::NoMemory)),
+        }
+    }
+}
+
+/// Goes on behind a head.
+fn routed<'h, L: Link, D: Dial, C: Clock>(
+    live: &mut Live<'h, L, D, C>,
+    intake: BodyIntake,
+) -> Next
+    requires told { IsHeadedAt live.old intake }
+    ensures leads { Leads live.old live.new 5 result }
+{
+    match route_of(live.routes, &intake) {
+        Err(cause) => live.refuse(cause, &intake.head().method),
+        Ok(route) => match route.address.copy(live.alloc) {
+            Ok(address) => Next::Go(Stage::ReadingBody(ReadingBody { intake, address })),
+            Err(_) => Next::End(ended(SessionEnd::NoMemory)),
+        },
+    }
+}
