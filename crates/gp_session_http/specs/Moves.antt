@@ -134,10 +134,10 @@ AsksAtEnd Worn c stage received = Asks c stage received
 AsksAtEnd NoMemory c stage received = Used c stage received
 
 abbrev pub IsAtEnd : SessionEnd → LiveView → Stage → List (List ℕ) → Type 0
-IsAtEnd (WasSent code) l stage parts = IsAt l stage parts
-IsAtEnd (Cut cause) l stage parts = IsAt l stage parts
-IsAtEnd ClientGone l stage parts = IsAt l stage parts
-IsAtEnd Worn l stage parts = IsAt l stage parts
+IsAtEnd (WasSent code) l stage parts = IsAt l.line stage parts
+IsAtEnd (Cut cause) l stage parts = IsAt l.line stage parts
+IsAtEnd ClientGone l stage parts = IsAt l.line stage parts
+IsAtEnd Worn l stage parts = IsAt l.line stage parts
 IsAtEnd NoMemory l stage parts = ⊤
 
 abbrev pub TimesAtEnd : SessionEnd → LiveView → Stage → Type 0
@@ -274,7 +274,7 @@ pub record HasAsked (l : LiveView) (asked : Asked) (x : ExchangeView) (last : La
   pub talks : IsIdle l.line.start → LineRow l.line [] last
   pub aim : IsAskedFor l.charter.signer asked x.asked
   pub bytes : BytesRow l.wire (exactly text)
-  pub times : TimesRow l.watch (Some asked.now)
+  pub times : TimesRow l.watch (Some asked.moment)
   pub stays : Stays l
 
 abbrev pub said : ExchangeView → List ℕ → Said
@@ -329,6 +329,3 @@ pub record PutsPart (v w : WireView) (chunked : Bool) (part : List ℕ) (result 
   pub link : w.link ≡ v.link
   pub ok : OnOk result (w.rest ≡ v.rest ++ framed_by chunked part)
   pub err : IfErr result (λ (e : List ℕ × AllocError). w.rest ≡ v.rest)
-
-abbrev pub finishing : PassingStage → EndCause → Next
-finishing s cause = Go (Finishing (record { passed = s.passed; exchange = record { value = s.exchange }; cause = cause }))

@@ -1,5 +1,5 @@
 //! What is asked of an origin.
-ghost use Rattle.std.specs.Prelude.{◌≡◌, ℕ, IfOk, IfSome, option_map};
+ghost use Rattle.std.specs.Prelude.{◌≡◌, [], IfOk, IfSome, option_map};
 ghost use Rattle.gp_body.specs.Plans.{plan_of_request};
 ghost use Rattle.gp_head.specs.Writable.{IsFieldValue};
 ghost use Rattle.gp_forward.specs.Alone.{IsForwarded};
@@ -17,7 +17,7 @@ use std::alloc::{AllocError, Global};
 pub(crate) struct Asked {
     pub(crate) request: Whole,
     pub(crate) address: Address,
-    pub(crate) now: u64,
+    pub(crate) moment: u64,
 }
 
 /// The body that is forwarded, where the request was planned to have one.
@@ -66,9 +66,9 @@ impl Asked {
     /// The bytes of the request that goes to the origin.
     fn request_text(&self, alloc: Global, signer: &Signer) -> Result<Body, AllocError>
         requires { IsAskable self.now }
-        ensures { IfOk result (IsForwarded self.now.request.head (body_sent (plan_of_request self.now.request.head) self.now.request.body) self.now.address (sig_at signer.now self.now.now) []) }
+        ensures { IfOk result (IsForwarded self.now.request.head (body_sent (plan_of_request self.now.request.head) self.now.request.body) self.now.address (sig_at signer.now self.now.moment) []) }
     {
-        let sig = sig_at(alloc, signer, self.now)?;
+        let sig = sig_at(alloc, signer, self.moment)?;
         let head = &self.request.head;
         let body = body_sent(head, &self.request.body);
         forward(alloc, head, body, &self.address, bytes_of(&sig), &[])

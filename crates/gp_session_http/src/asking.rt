@@ -10,8 +10,8 @@ use crate::failing::Failing;
 use crate::finishing::Finishing;
 use crate::live::Live;
 use crate::passing::Passing;
-use crate::stage::{Ended, Next, Stage, ended};
-use crate::verdict::{Verdict, verdict};
+use crate::stage::{Ended, Next, Stage, end_with};
+use crate::verdict::{Verdict, verdict_of};
 use gp_answer::Refusal;
 use gp_exchange::{Exchange, ExchangeFault, Progress};
 use gp_hub::{SessionEnd, Why};
@@ -52,7 +52,7 @@ impl Asking {
             Progress::Head(head) => self.answered(live, head),
             Progress::Fault(fault) => self.fail(live, why_failed(fault)),
             Progress::NotReady => Next::Wait(Stage::Asking(self)),
-            Progress::NoMemory => Next::End(ended(SessionEnd::NoMemory)),
+            Progress::NoMemory => Next::End(end_with(SessionEnd::NoMemory)),
             Progress::Part(_) | Progress::End => unreachable!(),
         }
     }
@@ -66,7 +66,7 @@ impl Asking {
         requires told { IsAnsweredAt live.old self head }
         ensures leads { Leads live.old live.new 3 result }
     {
-        match verdict(live.alloc, &head, self.asked.request.head.method.bytes()) {
+        match verdict_of(live.alloc, &head, self.asked.request.head.method.bytes()) {
             Verdict::Pass(status) => self.pass(live, head, status),
             Verdict::Refuse => {
                 live.line.hang_up(&self.exchange);
@@ -153,6 +153,6 @@ impl Asking {
         ensures leads { Leads live.old live.new 3 result }
     {
         live.line.hang_up(&self.exchange);
-        Next::End(ended(SessionEnd::NoMemory))
+        Next::End(end_with(SessionEnd::NoMemory))
     }
 }

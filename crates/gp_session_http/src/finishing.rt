@@ -6,7 +6,7 @@ ghost use Rattle.gp_session_http.specs.declared.stage.Stage.TheVariants as stage
 
 use crate::live::Live;
 use crate::passed::Passed;
-use crate::stage::{Next, Stage, ended};
+use crate::stage::{Next, Stage, end_with};
 use gp_exchange::Exchange;
 use gp_hub::SessionEnd;
 use gp_outbox::Flushed;
@@ -33,9 +33,9 @@ impl Finishing {
         ensures leads { Leads live.old live.new 1 result }
     {
         match live.wire.flush() {
-            Flushed::Empty => Next::End(ended(end_by(self.passed.code, self.cause))),
+            Flushed::Empty => Next::End(end_with(end_by(self.passed.code, self.cause))),
             Flushed::NotReady => Next::Wait(Stage::Finishing(self)),
-            Flushed::Failed => Next::End(ended(SessionEnd::ClientGone)),
+            Flushed::Failed => Next::End(end_with(SessionEnd::ClientGone)),
         }
     }
 }

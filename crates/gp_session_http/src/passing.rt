@@ -1,13 +1,13 @@
 //! A session that passes the body of a response on.
 ghost use Rattle.std.specs.Prelude.{◌≡◌, ◌<◌, [], length};
 ghost use Rattle.gp_session_http.specs.Trace.{Told};
-ghost use Rattle.gp_session_http.specs.Moves.{HasGiven, HasGivenAll, Leads, PutsPart, StepsTo, finishing};
+ghost use Rattle.gp_session_http.specs.Moves.{HasGiven, HasGivenAll, Leads, PutsPart, StepsTo};
 ghost use Rattle.gp_session_http.specs.declared.stage.Stage.TheVariants as stage;
 
 use crate::finishing::Finishing;
 use crate::live::Live;
 use crate::passed::Passed;
-use crate::stage::{Next, Stage, ended};
+use crate::stage::{Next, Stage, end_with};
 use gp_answer::last_chunk;
 use gp_body::chunk_head;
 use gp_exchange::{Exchange, Progress};
@@ -85,7 +85,7 @@ impl Passing {
             Flushed::NotReady => Step::Next(Next::Wait(Stage::Passing(self))),
             Flushed::Failed => {
                 live.line.hang_up(&self.exchange);
-                Step::Next(Next::End(ended(SessionEnd::ClientGone)))
+                Step::Next(Next::End(end_with(SessionEnd::ClientGone)))
             }
         }
     }
@@ -99,9 +99,12 @@ impl Passing {
         match live.line.poll(&mut self.exchange) {
             Progress::Part(part) => self.put(live, part),
             Progress::End => Step::Next(self.finish(live)),
-            Progress::Fault(_) => Step::Next(self.ended(EndCause::Unrecovered)),
+            Progress::Fault(_) => {
+                let finishing = self.over(EndCause::Unrecovered);
+                Step::Next(Next::Go(Stage::Finishing(finishing)))
+            }
             Progress::NotReady => Step::Next(Next::Wait(Stage::Passing(self))),
-            Progress::NoMemory => Step::Next(Next::End(ended(SessionEnd::NoMemory))),
+            Progress::NoMemory => Step::Next(Next::End(end_with(SessionEnd::NoMemory))),
             Progress::Head(_) => unreachable!(),
         }
     }
@@ -119,7 +122,7 @@ impl Passing {
             Ok(()) => Step::Part(self),
             Err(_) => {
                 live.line.hang_up(&self.exchange);
-                Step::Next(Next::End(ended(SessionEnd::NoMemory)))
+                Step::Next(Next::End(end_with(SessionEnd::NoMemory)))
             }
         }
     }
@@ -131,19 +134,21 @@ impl Passing {
     {
         let last = last_chunk(self.passed.chunked, Some(EndCause::Closed));
         match live.wire.put(b"", Body::empty(live.alloc), last) {
-            Ok(()) => self.ended(EndCause::Closed),
-            Err(_) => Next::End(ended(SessionEnd::NoMemory)),
+            Ok(()) => Next::Go(Stage::Finishing(self.over(EndCause::Closed))),
+            Err(_) => Next::End(end_with(SessionEnd::NoMemory)),
         }
     }
 
     /// On to the end of the response.
-    fn ended(self, cause: EndCause) -> Next
-        ensures { result ≡ finishing self cause }
+    fn over(self, cause: EndCause) -> Finishing
+        ensures passed { result.passed ≡ self.passed }
+        ensures exchange { result.exchange.value ≡ self.exchange }
+        ensures cause { result.cause ≡ cause }
     {
-        Next::Go(Stage::Finishing(Finishing {
+        Finishing {
             passed: self.passed,
             exchange: Snapshot::of(&self.exchange),
             cause,
-        }))
+        }
     }
 }

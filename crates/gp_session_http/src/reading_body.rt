@@ -7,7 +7,7 @@ use crate::asked::Asked;
 use crate::asking::Asking;
 use crate::cause::Cause;
 use crate::live::Live;
-use crate::stage::{Next, Stage, ended};
+use crate::stage::{Next, Stage, end_with};
 use gp_exchange::forward_law;
 use gp_hub::SessionEnd;
 use gp_intake::{BodyIntake, BodyPolled, Whole};
@@ -39,8 +39,8 @@ impl ReadingBody {
             BodyPolled::NotReady(intake) => {
                 Next::Wait(Stage::ReadingBody(ReadingBody { intake, address }))
             }
-            BodyPolled::ClientGone => Next::End(ended(SessionEnd::ClientGone)),
-            BodyPolled::NoMemory => Next::End(ended(SessionEnd::NoMemory)),
+            BodyPolled::ClientGone => Next::End(end_with(SessionEnd::ClientGone)),
+            BodyPolled::NoMemory => Next::End(end_with(SessionEnd::NoMemory)),
         }
     }
 }
@@ -55,14 +55,14 @@ fn ask<'h, L: Link, D: Dial, C: Clock>(
     ensures leads { Leads live.old live.new 4 result }
 {
     forward_law();
-    let now = live.watch.moment();
+    let moment = live.watch.moment();
     let asked = Asked {
         request,
         address,
-        now,
+        moment,
     };
     match asked.begin(live.alloc, live.signer) {
         Ok(exchange) => Next::Go(Stage::Asking(Asking { asked, exchange })),
-        Err(_) => Next::End(ended(SessionEnd::NoMemory)),
+        Err(_) => Next::End(end_with(SessionEnd::NoMemory)),
     }
 }

@@ -6,7 +6,7 @@ ghost use Rattle.gp_session_http.specs.declared.stage.Stage.TheVariants as stage
 use crate::cause::{Cause, route_of};
 use crate::live::Live;
 use crate::reading_body::ReadingBody;
-use crate::stage::{Next, Stage, ended};
+use crate::stage::{Next, Stage, end_with};
 use gp_hub::SessionEnd;
 use gp_intake::{BodyIntake, HeadIntake, HeadPolled};
 use gp_outside::{Clock, Dial, Link};
@@ -32,8 +32,8 @@ impl ReadingHead {
                 live.refuse(Cause::Request(refused.fault), &refused.method)
             }
             HeadPolled::NotReady(intake) => Next::Wait(Stage::ReadingHead(ReadingHead { intake })),
-            HeadPolled::ClientGone => Next::End(ended(SessionEnd::ClientGone)),
-            HeadPolled::NoMemory => Next::End(ended(SessionEnd::NoMemory)),
+            HeadPolled::ClientGone => Next::End(end_with(SessionEnd::ClientGone)),
+            HeadPolled::NoMemory => Next::End(end_with(SessionEnd::NoMemory)),
         }
     }
 }
@@ -50,7 +50,7 @@ fn routed<'h, L: Link, D: Dial, C: Clock>(
         Err(cause) => live.refuse(cause, &intake.head().method),
         Ok(route) => match route.address.copy(live.alloc) {
             Ok(address) => Next::Go(Stage::ReadingBody(ReadingBody { intake, address })),
-            Err(_) => Next::End(ended(SessionEnd::NoMemory)),
+            Err(_) => Next::End(end_with(SessionEnd::NoMemory)),
         },
     }
 }

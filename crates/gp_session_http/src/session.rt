@@ -52,6 +52,14 @@ impl<L: Link, D: Dial, C: Clock> Model for Devices<L, D, C> {
     ghost view = { λ d. record { link = L.tells d.link; dial = D.tells d.dial; clock = C.tells d.clock } };
 }
 
+impl<L: Link, D: Dial, C: Clock> Devices<L, D, C> {
+    fn parts(self) -> (L, D, C)
+        ensures { record { link = L.tells result.0; dial = D.tells result.1; clock = C.tells result.2 } ≡ self.entry }
+    {
+        (self.link, self.dial, self.clock)
+    }
+}
+
 /// A session with a client of HTTP. It reads one request, asks the origin of the first route that it meets, and passes the
 /// response on, part by part. A request that no route meets is answered 404, one for a WebSocket 501, and one whose origin gives no
 /// response that can be passed on 502.
@@ -102,7 +110,7 @@ impl<'h, L: Link, D: Dial, C: Clock> Open<'h, L, D, C> {
     /// A session that begins.
     fn new(live: Live<'h, L, D, C>) -> Open<'h, L, D, C>
         requires new { IsNew live }
-        ensures { result ≡ begun live }
+        ensures { result ≡ begun live.entry }
     {
         let alloc = live.alloc;
         Open {
@@ -172,8 +180,9 @@ impl<'h, L: Link, D: Dial, C: Clock> HttpSession<'h, L, D, C> {
     pub fn parts(self) -> Option<(L, D, C)>
         ensures { option_map (λ d. record { link = L.tells d.0; dial = D.tells d.1; clock = C.tells d.2 }) result ≡ self.entry.left }
     {
-        match self.left {
-            Some(devices) => Some((devices.link, devices.dial, devices.clock)),
+        let HttpSession { open: _, left } = self;
+        match left {
+            Some(devices) => Some(devices.parts()),
             None => None,
         }
     }

@@ -1,4 +1,6 @@
 //! The stages of a session, and where a move leads.
+ghost use Rattle.std.specs.Prelude.{◌≡◌};
+ghost use Rattle.gp_hub.specs.declared.outcome.Why.TheVariants as why;
 ghost use Rattle.gp_session_http.specs.Trace.{Told};
 ghost use Rattle.gp_session_http.specs.Moves.{Leads, rank};
 
@@ -72,8 +74,8 @@ impl Stage {
 }
 
 /// An end for which nothing was refused.
-pub(crate) fn ended(end: SessionEnd) -> Ended
-    ensures { result ≡ record { end = end; why = Why.Nothing } }
+pub(crate) fn end_with(end: SessionEnd) -> Ended
+    ensures { result ≡ record { end = end; why = why.Nothing } }
 {
     Ended {
         end,

@@ -43,7 +43,7 @@ fn read_verdict(alloc: Global, head: &Response) -> Verdict
 }
 
 /// Of the response to a request with this method. Nothing is read of the instruction of a response to HEAD.
-pub(crate) fn verdict(alloc: Global, head: &Response, method: &[u8]) -> Verdict
+pub(crate) fn verdict_of(alloc: Global, head: &Response, method: &[u8]) -> Verdict
     ensures { IsVerdict method.now head.now result }
 {
     if is_head(method) {
