@@ -180,7 +180,7 @@ module _ (v : LiveView) (w : WireView) (n : ℕ) (stage : Stage) (told : Told v 
     moved = moved_flush v w f h;
     to = record {
       stage = stage;
-      told = at_end e (with_wire v w) stage (now f h) (λ alone. subst (LineRow v.line []) (hangs told.given) (told.talks alone));
+      told = at_end e (with_wire v w) stage (now f h) (λ alone. subst (LineRow v.line []) (hangs (now f h).given) ((now f h).talks alone));
       says = says;
       why_is = refl;
     };

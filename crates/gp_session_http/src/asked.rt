@@ -3,7 +3,8 @@ ghost use Rattle.std.specs.Prelude.{◌≡◌, [], IfOk, IfSome, option_map};
 ghost use Rattle.gp_body.specs.Plans.{plan_of_request};
 ghost use Rattle.gp_head.specs.Writable.{IsFieldValue};
 ghost use Rattle.gp_forward.specs.Alone.{IsForwarded};
-ghost use Rattle.gp_session_http.specs.Asking.{BeginsFor, IsAskable, body_sent, expiry, sig_at};
+ghost use Rattle.gp_sig.specs.Tokens.{token_of};
+ghost use Rattle.gp_session_http.specs.Asking.{BeginsFor, IsAskable, body_sent, expiry, issuer, sig_at};
 
 use gp_body::BodyPlan;
 use gp_exchange::{Exchange, forward, forward_law};
@@ -40,15 +41,23 @@ fn expiry(now: u64) -> u64
     now.saturating_add(3600)
 }
 
+/// The token of a moment under a key.
+fn token_at(alloc: Global, key: &Body, now: u64) -> Result<Body, AllocError>
+    ensures is { IfOk result (λ text. text ≡ token_of key.now issuer (expiry now)) }
+    ensures value { IfOk result IsFieldValue }
+{
+    forward_law();
+    token(alloc, key.bytes(), b"pushpin", expiry(now))
+}
+
 /// The token of a moment, where there is a key.
 fn sig_at(alloc: Global, signer: &Signer, now: u64) -> Result<Option<Body>, AllocError>
     ensures is { IfOk result (λ sig. sig ≡ sig_at signer.now now) }
     ensures value { IfOk result (λ sig. IfSome sig IsFieldValue) }
 {
-    forward_law();
     match &signer.key {
         None => Ok(None),
-        Some(key) => Ok(Some(token(alloc, key.bytes(), b"pushpin", expiry(now))?)),
+        Some(key) => Ok(Some(token_at(alloc, key, now)?)),
     }
 }
 

@@ -1,14 +1,15 @@
-//! Why a request is refused, and where another one goes.
+//! Where a request goes, and why it is refused.
 ghost use Rattle.std.specs.Prelude.{◌≡◌, MatchResult};
-ghost use Rattle.gp_session_http.specs.Routing.{IsRoutedTo, IsUnrouted, host_of, refusal_of, request_refusal, request_why, why_of};
+ghost use Rattle.gp_session_http.specs.Routing.{IsDestination, IsRoutedTo, IsUnrouted, host_of, refusal_of, request_refusal, request_why, why_of};
 
 use gp_answer::Refusal;
 use gp_hub::Why;
 use gp_intake::{BodyIntake, RequestFault};
-use gp_plain::Request;
+use gp_plain::{Address, Request};
 use gp_routes::{Route, Routes};
 use gp_text::first_value;
 use gp_ws::is_upgrade;
+use std::alloc::Global;
 
 /// Why a request is refused.
 #[derive(Clone, Copy, Drop)]
@@ -19,6 +20,17 @@ pub(crate) enum Cause {
     Route,
     /// It asks for a WebSocket: 501.
     Upgrade,
+}
+
+/// Where a request goes.
+#[derive(Drop)]
+pub(crate) enum Destination {
+    /// To the origin at this address.
+    Origin(Address),
+    /// Nowhere: it is refused.
+    Refused(Cause),
+    /// Memory is wanting.
+    NoMemory,
 }
 
 /// What a request that isn't served is answered.
@@ -83,7 +95,7 @@ fn host_of(head: &Request) -> &[u8]
 }
 
 /// The route of a request with this head, or why it isn't forwarded.
-pub(crate) fn route_of<'r>(routes: &'r Routes, intake: &BodyIntake) -> Result<&'r Route, Cause>
+fn route_of<'r>(routes: &'r Routes, intake: &BodyIntake) -> Result<&'r Route, Cause>
     ensures { MatchResult result (λ route. IsRoutedTo routes.now intake.now.head intake.now.path route.now) (IsUnrouted routes.now intake.now.head intake.now.path) }
 {
     match routes.pick(host_of(intake.head()), intake.path()) {
@@ -95,5 +107,18 @@ pub(crate) fn route_of<'r>(routes: &'r Routes, intake: &BodyIntake) -> Result<&'
                 Ok(route)
             }
         }
+    }
+}
+
+/// Where a request with this head goes.
+pub(crate) fn find_origin(alloc: Global, routes: &Routes, intake: &BodyIntake) -> Destination
+    ensures { IsDestination routes.now intake.now.head intake.now.path result }
+{
+    match route_of(routes, intake) {
+        Err(cause) => Destination::Refused(cause),
+        Ok(route) => match route.address.copy(alloc) {
+            Ok(address) => Destination::Origin(address),
+            Err(_) => Destination::NoMemory,
+        },
     }
 }

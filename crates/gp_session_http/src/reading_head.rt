@@ -3,7 +3,7 @@ ghost use Rattle.gp_session_http.specs.Trace.{Told};
 ghost use Rattle.gp_session_http.specs.Moves.{IsHeadedAt, Leads};
 ghost use Rattle.gp_session_http.specs.declared.stage.Stage.TheVariants as stage;
 
-use crate::cause::{Cause, route_of};
+use crate::cause::{Cause, Destination, find_origin};
 use crate::live::Live;
 use crate::reading_body::ReadingBody;
 use crate::stage::{Next, Stage, end_with};
@@ -46,11 +46,11 @@ fn routed<'h, L: Link, D: Dial, C: Clock>(
     requires told { IsHeadedAt live.old intake }
     ensures leads { Leads live.old live.new 5 result }
 {
-    match route_of(live.routes, &intake) {
-        Err(cause) => live.refuse(cause, &intake.head().method),
-        Ok(route) => match route.address.copy(live.alloc) {
-            Ok(address) => Next::Go(Stage::ReadingBody(ReadingBody { intake, address })),
-            Err(_) => Next::End(end_with(SessionEnd::NoMemory)),
-        },
+    match find_origin(live.alloc, live.routes, &intake) {
+        Destination::Origin(address) => {
+            Next::Go(Stage::ReadingBody(ReadingBody { intake, address }))
+        }
+        Destination::Refused(cause) => live.refuse(cause, &intake.head().method),
+        Destination::NoMemory => Next::End(end_with(SessionEnd::NoMemory)),
     }
 }

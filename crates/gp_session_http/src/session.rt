@@ -54,7 +54,7 @@ impl<L: Link, D: Dial, C: Clock> Model for Devices<L, D, C> {
 
 impl<L: Link, D: Dial, C: Clock> Devices<L, D, C> {
     fn parts(self) -> (L, D, C)
-        ensures { record { link = L.tells result.0; dial = D.tells result.1; clock = C.tells result.2 } ≡ self.entry }
+        ensures { record { link = L.tells result.0; dial = D.tells result.1; clock = C.tells result.2 } ≡ self }
     {
         (self.link, self.dial, self.clock)
     }
