@@ -132,12 +132,14 @@ impl Asking {
         requires told { IsFailedAt live.old self why }
         ensures leads { Leads live.old live.new 3 result }
     {
+        let asked = Snapshot::of(&self.asked);
+        let exchange = Snapshot::of(&self.exchange);
         let refusal = Refusal::BadGateway;
         let body = refusal.body(self.asked.request.head.method.bytes());
         match live.wire.put(refusal.head(), Body::empty(live.alloc), body) {
             Ok(()) => Next::Go(Stage::Failing(Failing {
-                asked: Snapshot::of(&self.asked),
-                exchange: Snapshot::of(&self.exchange),
+                asked,
+                exchange,
                 why,
             })),
             Err(_) => Next::End(Ended {
