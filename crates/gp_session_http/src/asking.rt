@@ -52,7 +52,10 @@ impl Asking {
             Progress::Head(head) => self.answered(live, head),
             Progress::Fault(fault) => self.fail(live, why_failed(fault)),
             Progress::NotReady => Next::Wait(Stage::Asking(self)),
-            Progress::NoMemory => Next::End(end_with(SessionEnd::NoMemory)),
+            Progress::NoMemory => {
+                drop(self);
+                Next::End(end_with(SessionEnd::NoMemory))
+            }
             Progress::Part(_) | Progress::End => unreachable!(),
         }
     }
@@ -110,12 +113,15 @@ impl Asking {
         let passed = self.asked.passed(head, status);
         if self.asked.is_bare_by(head, status) {
             live.line.hang_up(&self.exchange);
+            let exchange = Snapshot::of(&self.exchange);
+            drop(self);
             Next::Go(Stage::Finishing(Finishing {
                 passed,
-                exchange: Snapshot::of(&self.exchange),
+                exchange,
                 cause: EndCause::Closed,
             }))
         } else {
+            drop(self.asked);
             Next::Go(Stage::Passing(Passing {
                 passed,
                 exchange: self.exchange,
@@ -136,6 +142,7 @@ impl Asking {
         let exchange = Snapshot::of(&self.exchange);
         let refusal = Refusal::BadGateway;
         let body = refusal.body(self.asked.request.head.method.bytes());
+        drop(self);
         match live.wire.put(refusal.head(), Body::empty(live.alloc), body) {
             Ok(()) => Next::Go(Stage::Failing(Failing {
                 asked,
@@ -155,6 +162,7 @@ impl Asking {
         ensures leads { Leads live.old live.new 3 result }
     {
         live.line.hang_up(&self.exchange);
+        drop(self);
         Next::End(end_with(SessionEnd::NoMemory))
     }
 }

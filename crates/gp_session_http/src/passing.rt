@@ -85,6 +85,7 @@ impl Passing {
             Flushed::NotReady => Step::Next(Next::Wait(Stage::Passing(self))),
             Flushed::Failed => {
                 live.line.hang_up(&self.exchange);
+                drop(self);
                 Step::Next(Next::End(end_with(SessionEnd::ClientGone)))
             }
         }
@@ -104,7 +105,10 @@ impl Passing {
                 Step::Next(Next::Go(Stage::Finishing(finishing)))
             }
             Progress::NotReady => Step::Next(Next::Wait(Stage::Passing(self))),
-            Progress::NoMemory => Step::Next(Next::End(end_with(SessionEnd::NoMemory))),
+            Progress::NoMemory => {
+                drop(self);
+                Step::Next(Next::End(end_with(SessionEnd::NoMemory)))
+            }
             Progress::Head(_) => unreachable!(),
         }
     }
@@ -122,6 +126,7 @@ impl Passing {
             Ok(()) => Step::Part(self),
             Err(_) => {
                 live.line.hang_up(&self.exchange);
+                drop(self);
                 Step::Next(Next::End(end_with(SessionEnd::NoMemory)))
             }
         }
@@ -135,7 +140,10 @@ impl Passing {
         let last = last_chunk(self.passed.chunked, Some(EndCause::Closed));
         match live.wire.put(b"", Body::empty(live.alloc), last) {
             Ok(()) => Next::Go(Stage::Finishing(self.over(EndCause::Closed))),
-            Err(_) => Next::End(end_with(SessionEnd::NoMemory)),
+            Err(_) => {
+                drop(self);
+                Next::End(end_with(SessionEnd::NoMemory))
+            }
         }
     }
 
@@ -145,9 +153,11 @@ impl Passing {
         ensures exchange { result.exchange.value ≡ self.exchange }
         ensures cause { result.cause ≡ cause }
     {
+        let exchange = Snapshot::of(&self.exchange);
+        drop(self.exchange);
         Finishing {
             passed: self.passed,
-            exchange: Snapshot::of(&self.exchange),
+            exchange,
             cause,
         }
     }
