@@ -292,3 +292,7 @@ asking_waits v l s moved h at w = record {
     waits (record { request = λ no. absurd no; talk = λ _. w; writes = λ some. absurd (some (none_waits v.wire h.bytes)); some = inr (inl tt) }),
   );
 }
+
+-- the client's head is put
+pub put_head : (bytes text body head : List ℕ) → bytes ≡ text → text ≡ head → body ≡ [] → bytes ++ (body ++ []) ≡ head
+put_head bytes text body head same is none = ap (λ (x : List ℕ). bytes ++ (x ++ [])) none ∙ append-nil bytes ∙ same ∙ is
