@@ -56,7 +56,7 @@ sig_at signer now = option_map (λ (key : List ℕ). token_of key issuer (expiry
 -- a body of any length
 pub record IsAskedFor (signer : Signer) (asked : Asked) (a : AskedView) : Type 0 where
   pub to : a.to ≡ asked.address
-  pub request : IsForwarded asked.request.head (body_sent (plan_of_request asked.request.head) asked.request.body) asked.address (sig_at signer asked.now) [] a.request
+  pub request : IsForwarded asked.request.head (body_sent (plan_of_request asked.request.head) asked.request.body) asked.address (sig_at signer asked.moment) [] a.request
   pub method : a.method ≡ asked.request.head.method
   pub limit : a.limit ≡ 2 ^ 64 - 1
 
@@ -116,6 +116,14 @@ IsOriginFault fault.Head = ⊤
 IsOriginFault fault.Interim = ⊤
 IsOriginFault (fault.Plan f) = ⊤
 IsOriginFault (fault.Body f) = ⊤
+
+-- why there is no response
+abbrev pub why_failed : ExchangeFault → Why
+why_failed fault.Dial = why.Dial
+why_failed fault.Head = why.Origin
+why_failed fault.Interim = why.Origin
+why_failed (fault.Plan f) = why.Origin
+why_failed (fault.Body f) = why.Origin
 
 -- before a head was given the dialer failed, or the bytes of the talk are no response
 pub record FailsByDial (l : LineView) (x : ExchangeView) : Type 0 where

@@ -1,5 +1,5 @@
 -- Where a move leads, why a session waits, and how it ends.
-use Rattle.std.specs.Prelude.{◌≡◌, ◌≢◌, ℕ, ◌+◌, ◌<◌, ◌⊎◌, true, false, List, [], ◌∷◌, ◌++◌, length, All, Option, Some, None, ⊤}
+use Rattle.std.specs.Prelude.{◌≡◌, ◌≢◌, ℕ, ◌+◌, ◌<◌, ◌⊎◌, true, false, List, [], ◌∷◌, ◌++◌, length, All, Option, Some, None, Result, OnOk, IfErr, Bool, ⊤}
 use Rattle.std.specs.List.{flat_map}
 use Rattle.gp_plain.specs.declared.reply.EndCause.{EndCause}
 use Rattle.gp_plain.specs.declared.reply.EndCause.TheVariants as cause_of_end
@@ -10,13 +10,17 @@ use Rattle.gp_hub.specs.declared.outcome.Why.{Why}
 use Rattle.gp_hub.specs.declared.outcome.Why.TheVariants as why
 use Rattle.gp_answer.specs.Refusals.{code_of}
 use Rattle.gp_answer.specs.Frames.{framed_by}
-use Rattle.gp_exchange.specs.Answers.{Waits}
+use Rattle.gp_exchange.specs.Answers.{Waits, IsOverBy, head_of, rank as rank_of}
+use Rattle.gp_exchange.specs.Views.{ExchangeView}
+use Rattle.gp_exchange.specs.declared.answer.Last.TheVariants as last
+use Rattle.gp_plain.specs.declared.http.Response.{Response}
+use Rattle.std.specs.declared.alloc.AllocError.{AllocError}
 use Rattle.gp_intake.specs.declared.body.Whole.{Whole}
 use Rattle.gp_intake.specs.Requests.{HeadedView, IsHeaded}
 use Rattle.gp_intake.specs.Bodies.{IsOpen}
 use Rattle.gp_plain.specs.declared.http.Address.{Address}
 use Rattle.gp_session.specs.Wires.{WireView, RequestRow, BytesRow, Shape, exactly, at_most}
-use Rattle.gp_session.specs.Lines.{Last, idle, speaking, hung, LineRow}
+use Rattle.gp_session.specs.Lines.{Said, Last, idle, speaking, hung, LineRow}
 use Rattle.gp_session.specs.Causes.{ReadWaited, WriteWaited, HasFailed, HasEnded}
 use Rattle.gp_session_http.specs.declared.cause.Cause.{Cause}
 use Rattle.gp_session_http.specs.declared.stage.Stage.{Stage}
@@ -26,10 +30,14 @@ use Rattle.gp_session_http.specs.declared.stage.Next.{Next}
 use Rattle.gp_session_http.specs.declared.stage.Next.TheVariants.{Go, Wait, End}
 use Rattle.gp_session_http.specs.declared.passing.Step.{Step}
 use Rattle.gp_session_http.specs.declared.passing.Step.TheVariants as step
+use Rattle.gp_session_http.specs.declared.asked.Asked.{Asked}
+use Rattle.gp_session_http.specs.declared.asking.Asking.{Asking as AskingStage}
+use Rattle.gp_session_http.specs.declared.passing.Passing.{Passing as PassingStage}
+use Rattle.gp_session_http.specs.Asking.{IsAskedFor, FailsBy}
 use Rattle.gp_session_http.specs.Routing.{Charter, IsRefusedFor, IsServed, refusal_of, why_of}
-use Rattle.gp_session_http.specs.Passing.{ArePartsOf, asked_of}
+use Rattle.gp_session_http.specs.Passing.{ArePartsOf, asked_of, origin_head, has_no_body, IsPassedOn, passed_text, head_by}
 use Rattle.gp_session_http.specs.Views.{LiveView, Moved, SaysMore}
-use Rattle.gp_session_http.specs.Trace.{Asks, last_of, HasAim, IsAt, text_of, moment_of, IsUnasked, TimesRow, Stays, Told}
+use Rattle.gp_session_http.specs.Trace.{Serves, IsPassing, Asks, last_of, HasAim, IsAt, text_of, moment_of, IsUnasked, TimesRow, Stays, Told}
 
 -- how many moves that go on may follow, at the most
 abbrev pub rank : Stage → ℕ
@@ -126,10 +134,10 @@ AsksAtEnd Worn c stage received = Asks c stage received
 AsksAtEnd NoMemory c stage received = Used c stage received
 
 abbrev pub IsAtEnd : SessionEnd → LiveView → Stage → List (List ℕ) → Type 0
-IsAtEnd (WasSent code) l stage parts = IsAt l stage parts
-IsAtEnd (Cut cause) l stage parts = IsAt l stage parts
-IsAtEnd ClientGone l stage parts = IsAt l stage parts
-IsAtEnd Worn l stage parts = IsAt l stage parts
+IsAtEnd (WasSent code) l stage parts = IsAt l.line stage parts
+IsAtEnd (Cut cause) l stage parts = IsAt l.line stage parts
+IsAtEnd ClientGone l stage parts = IsAt l.line stage parts
+IsAtEnd Worn l stage parts = IsAt l.line stage parts
 IsAtEnd NoMemory l stage parts = ⊤
 
 abbrev pub TimesAtEnd : SessionEnd → LiveView → Stage → Type 0
@@ -210,6 +218,17 @@ pub record Finishes (l : LiveView) (ended : Ended) : Type 0 where
   pub says : EndSays ended.end l stage
   pub why_is : ended.why ≡ why_at stage
 
+-- how a session ends whose response ended so
+abbrev pub end_by : ℕ → EndCause → SessionEnd
+end_by code cause_of_end.Closed = WasSent code
+end_by code cause_of_end.Detached = Cut cause_of_end.Detached
+end_by code cause_of_end.Gap = Cut cause_of_end.Gap
+end_by code cause_of_end.Unrecovered = Cut cause_of_end.Unrecovered
+end_by code cause_of_end.Overflow = Cut cause_of_end.Overflow
+end_by code cause_of_end.Answered = Cut cause_of_end.Answered
+end_by code cause_of_end.Retry = Cut cause_of_end.Retry
+end_by code cause_of_end.TimedOut = Cut cause_of_end.TimedOut
+
 -- where a move leads
 abbrev pub LeadsTo : LiveView → LiveView → ℕ → Next → Type 0
 LeadsTo v w n (Go stage) = Told w stage × (rank stage < n)
@@ -248,3 +267,65 @@ IsHeadedAt l v = IsUnanswered l (IsHeaded v)
 
 abbrev pub IsServedAt : LiveView → Whole → Address → Type 0
 IsServedAt l w address = IsUnanswered l (IsServed l.charter.rules w address)
+
+-- the rows once the origin was asked, with the last exchange, and this text for the client
+pub record HasAsked (l : LiveView) (asked : Asked) (x : ExchangeView) (last : Last) (text : List ℕ) : Type 0 where
+  pub request : RequestRow l.wire (Serves l.charter asked)
+  pub talks : IsIdle l.line.start → LineRow l.line [] last
+  pub aim : IsAskedFor l.charter.signer asked x.asked
+  pub bytes : BytesRow l.wire (exactly text)
+  pub times : TimesRow l.watch (Some asked.moment)
+  pub stays : Stays l
+
+abbrev pub said : ExchangeView → List ℕ → Said
+said x given = record { exchange = x; given = given }
+
+-- nothing was said to the client
+abbrev pub IsSpeakingAt : LiveView → AskingStage → Type 0
+IsSpeakingAt l s = HasAsked l s.asked s.exchange (speaking (said s.exchange [])) []
+
+-- this head was given
+pub record HasHeadOf (x : ExchangeView) (head : Response) : Type 0 where
+  pub reading : rank_of x.place ≡ 4
+  pub head_is : head_of x.place ≡ Some head
+
+pub record IsAnsweredAt (l : LiveView) (s : AskingStage) (head : Response) : Type 0 where
+  pub rows : IsSpeakingAt l s
+  pub has : HasHeadOf s.exchange head
+
+-- the client's head was put
+pub record IsBegunAt (l : LiveView) (s : AskingStage) (head : Response) (status : Option ℕ) : Type 0 where
+  pub rows : HasAsked l s.asked s.exchange (speaking (said s.exchange [])) (head_by s.asked head status)
+  pub has : HasHeadOf s.exchange head
+
+-- the talk is over, and this is why there is no response
+pub record IsFailedAt (l : LiveView) (s : AskingStage) (why : Why) : Type 0 where
+  pub rows : HasAsked l s.asked s.exchange (hung (said s.exchange [])) []
+  pub fails : FailsBy l.line s.asked.request.head.method s.exchange why
+
+-- so much of a body was passed on, and the talk has given this part too
+pub record HasGiven (l : LiveView) (s : PassingStage) (part : List ℕ) : Type 0 where
+  pub given : List ℕ
+  pub parts : List (List ℕ)
+  pub cut : ArePartsOf parts given
+  pub some : 0 < length part
+  pub rows : HasAsked l (asked_of s.passed) s.exchange (speaking (said s.exchange (given ++ part))) (passed_text s.passed parts None)
+  pub at : IsPassing s.passed s.exchange
+
+-- all of a body was passed on, and the talk is over
+pub record HasGivenAll (l : LiveView) (s : PassingStage) : Type 0 where
+  pub given : List ℕ
+  pub parts : List (List ℕ)
+  pub cut : ArePartsOf parts given
+  pub rows : HasAsked l (asked_of s.passed) s.exchange (hung (said s.exchange given)) (passed_text s.passed parts None)
+  pub over : IsOverBy last.End s.exchange.place
+  pub head : head_of s.exchange.place ≡ Some (origin_head s.passed)
+  pub on : IsPassedOn s.passed
+  pub body : has_no_body s.passed ≡ false
+
+-- a part is put in its framing, or nothing has changed
+pub record PutsPart (v w : WireView) (chunked : Bool) (part : List ℕ) (result : Result ⊤ (List ℕ × AllocError)) : Type 0 where
+  pub start : w.start ≡ v.start
+  pub link : w.link ≡ v.link
+  pub ok : OnOk result (w.rest ≡ v.rest ++ framed_by chunked part)
+  pub err : IfErr result (λ (e : List ℕ × AllocError). w.rest ≡ v.rest)

@@ -1,5 +1,5 @@
 -- What a poll of a session brings.
-use Rattle.std.specs.Prelude.{◌≡◌, [], Option, Some, None, IfSome}
+use Rattle.std.specs.Prelude.{◌≡◌, ◌≤◌, [], Option, Some, None, IfSome}
 use Rattle.gp_outside.specs.Clocks.{ClockTells}
 use Rattle.gp_outside.specs.Dials.{DialTells}
 use Rattle.gp_outside.specs.Links.{LinkTells}
@@ -11,6 +11,7 @@ use Rattle.gp_session_http.specs.declared.finish.Finish.{Finish}
 use Rattle.gp_session_http.specs.declared.finish.Finish.TheVariants.{Done, Upgrade}
 use Rattle.gp_session_http.specs.declared.stage.Stage.{Stage}
 use Rattle.gp_session_http.specs.declared.stage.Stage.TheVariants.{ReadingHead}
+use Rattle.gp_session.specs.Seats.{IsFresh}
 use Rattle.gp_session_http.specs.Routing.{Charter}
 use Rattle.gp_session_http.specs.Views.{LiveView, Moved}
 use Rattle.gp_session_http.specs.Trace.{Told, new_live}
@@ -35,11 +36,18 @@ pub record SessionView : Type 0 where
   pub open_is : Option OpenView
   pub left : Option DevicesView
 
-abbrev pub new_open : DevicesView → HubView → Charter → OpenView
-new_open devices pass charter = record { live = new_live devices.link devices.dial devices.clock pass charter; stage = ReadingHead (record { intake = [] }) }
+-- the session's first stage
+abbrev pub begun : LiveView → OpenView
+begun l = record { live = l; stage = ReadingHead (record { intake = [] }) }
+
+-- the ends of a session that begins
+pub record IsNew (l : LiveView) : Type 0 where
+  pub is : l ≡ new_live l.wire.link l.line.dial l.watch.clock l.seat.pass l.charter
+  pub fresh : IsFresh l.seat.pass
+  pub some : 1 ≤ l.seat.pass.spare
 
 abbrev pub new_session : DevicesView → HubView → Charter → SessionView
-new_session devices pass charter = record { open_is = Some (new_open devices pass charter); left = None }
+new_session devices pass charter = record { open_is = Some (begun (new_live devices.link devices.dial devices.clock pass charter)); left = None }
 
 abbrev pub HasEnded : SessionView → Type 0
 HasEnded s = s.open_is ≡ None
@@ -52,18 +60,18 @@ pub record Leaves (l : LiveView) (o : Outcome) (devices : DevicesView) : Type 0 
   pub pass : o.pass ≡ l.seat.pass
   pub devices_are : devices ≡ devices_of l
 
+-- how the devices were when the session began
+abbrev pub start_of : LiveView → DevicesView
+start_of l = record { link = l.wire.start; dial = l.line.start; clock = l.watch.start }
+
 -- what a session may leave that began so
 pub record MayLeave (start : DevicesView) (pass : HubView) (charter : Charter) (o : Outcome) : Type 0 where
   pub l : LiveView
   pub devices : DevicesView
-  pub start_is : record { link = l.wire.start; dial = l.line.start; clock = l.watch.start } ≡ start
+  pub start_is : start_of l ≡ start
   pub pass_is : l.seat.start ≡ pass
   pub charter_is : l.charter ≡ charter
   pub leaves : Leaves l o devices
-
--- how the devices were when the session began
-abbrev pub start_of : LiveView → DevicesView
-start_of l = record { link = l.wire.start; dial = l.line.start; clock = l.watch.start }
 
 -- the moves of a poll that ends the session
 pub record Ends (v : LiveView) (o : Outcome) (devices : DevicesView) : Type 0 where

@@ -1,5 +1,5 @@
 -- Which requests are forwarded and where, and why others are refused (RFC 9110, section 15.5).
-use Rattle.std.specs.Prelude.{◌≡◌, ℕ, true, false, List, ◌++◌, codes, Option, Some, None}
+use Rattle.std.specs.Prelude.{◌≡◌, ℕ, true, false, List, ◌++◌, codes, Option, Some, None, ⊤}
 use Rattle.gp_plain.specs.declared.http.Address.{Address}
 use Rattle.gp_plain.specs.declared.http.Request.{Request}
 use Rattle.gp_plain.specs.declared.http.Signer.{Signer}
@@ -21,6 +21,8 @@ use Rattle.gp_intake.specs.declared.fault.RequestFault.TheVariants.{HeadTooLarge
 use Rattle.gp_intake.specs.declared.body.Whole.{Whole}
 use Rattle.gp_intake.specs.Requests.{HeadedView, IsHeaded, IsWhole, IsHeadRefusedBy, IsBodyRefusedBy}
 use Rattle.gp_session_http.specs.declared.cause.Cause.{Cause}
+use Rattle.gp_session_http.specs.declared.cause.Destination.{Destination}
+use Rattle.gp_session_http.specs.declared.cause.Destination.TheVariants.{Origin, Refused, NoMemory}
 use Rattle.gp_session_http.specs.declared.cause.Cause.TheVariants as cause
 
 -- what a session is made with, and never changes: the routes, the key of its tokens, and its tag
@@ -56,6 +58,11 @@ abbrev pub IsUnrouted : List Rule → Request → List ℕ → Cause → Type 0
 IsUnrouted rules head path (cause.Request fault) = ⊥
 IsUnrouted rules head path cause.Route = picked (host_of head) path rules ≡ None
 IsUnrouted rules head path cause.Upgrade = IsUpgrade rules head path
+
+abbrev pub IsDestination : List Rule → Request → List ℕ → Destination → Type 0
+IsDestination rules head path (Origin address) = IsRouted rules head path address
+IsDestination rules head path (Refused c) = IsUnrouted rules head path c
+IsDestination rules head path NoMemory = ⊤
 
 -- a whole request that is forwarded to this address
 pub record IsServed (rules : List Rule) (w : Whole) (address : Address) (received : List ℕ) : Type 0 where

@@ -17,7 +17,7 @@ use Rattle.gp_exchange.specs.declared.answer.Last.TheVariants as last
 use Rattle.gp_intake.specs.Heads.{IsBegun}
 use Rattle.gp_intake.specs.Requests.{IsHeaded}
 use Rattle.gp_session.specs.Wires.{RequestRow, BytesRow, exactly, new_wire}
-use Rattle.gp_session.specs.Lines.{Last, idle, speaking, hung, LineRow, new_line}
+use Rattle.gp_session.specs.Lines.{LineView, Last, idle, speaking, hung, LineRow, new_line}
 use Rattle.gp_session.specs.Watches.{WatchView, WatchRow, new_watch}
 use Rattle.gp_session.specs.Seats.{SeatRow, HasNoHolds, IsServed as IsHubServed, Made, new_seat}
 use Rattle.gp_session_http.specs.declared.asked.Asked.{Asked}
@@ -90,12 +90,12 @@ pub record IsPassedBy (p : Passed) (x : ExchangeView) (cause : EndCause) (parts 
   pub bare : has_no_body p ≡ true → parts ≡ []
 
 -- what the exchange has come to
-abbrev pub IsAt : LiveView → Stage → List (List ℕ) → Type 0
+abbrev pub IsAt : LineView → Stage → List (List ℕ) → Type 0
 IsAt l (ReadingHead s) parts = ⊤
 IsAt l (ReadingBody s) parts = ⊤
 IsAt l (Refusing s) parts = ⊤
 IsAt l (Asking s) parts = ExpectsHead s.exchange
-IsAt l (Failing s) parts = FailsBy l.line s.asked.value.request.head.method s.exchange.value s.why
+IsAt l (Failing s) parts = FailsBy l s.asked.value.request.head.method s.exchange.value s.why
 IsAt l (Passing s) parts = IsPassing s.passed s.exchange
 IsAt l (Finishing s) parts = IsPassedBy s.passed s.exchange.value s.cause parts
 
@@ -114,10 +114,10 @@ abbrev pub moment_of : Stage → Option ℕ
 moment_of (ReadingHead s) = None
 moment_of (ReadingBody s) = None
 moment_of (Refusing s) = None
-moment_of (Asking s) = Some s.asked.now
-moment_of (Failing s) = Some s.asked.value.now
-moment_of (Passing s) = Some (asked_of s.passed).now
-moment_of (Finishing s) = Some (asked_of s.passed).now
+moment_of (Asking s) = Some s.asked.moment
+moment_of (Failing s) = Some s.asked.value.moment
+moment_of (Passing s) = Some (asked_of s.passed).moment
+moment_of (Finishing s) = Some (asked_of s.passed).moment
 
 -- the clock wasn't asked; or it was, in this session, and this is its last answer
 pub record IsUnasked (w : WatchView) : Type 0 where
@@ -148,7 +148,7 @@ pub record Told (l : LiveView) (stage : Stage) : Type 0 where
   pub request : RequestRow l.wire (Asks l.charter stage)
   pub talks : IsIdle l.line.start → LineRow l.line [] (last_of stage given)
   pub aim : HasAim l.charter stage
-  pub at : IsAt l stage parts
+  pub at : IsAt l.line stage parts
   pub bytes : BytesRow l.wire (exactly (text_of stage parts))
   pub times : TimesRow l.watch (moment_of stage)
   pub stays : Stays l

@@ -1,0 +1,5 @@
+pub mod Rows
+pub mod Putting
+pub mod Hearing
+pub mod Answering
+pub mod Sending

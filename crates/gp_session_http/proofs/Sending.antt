@@ -1,0 +1,259 @@
+-- What passing a response on does to the rows of a session.
+use Rattle.std.proofs.Common.{◌≡◌, ◌≢◌, ℕ, ◌+◌, ◌<◌, ◌≤◌, Bool, true, false, List, [], ◌∷◌, ◌++◌, length, Option, Some, None, refl, sym, ap, ◌∙◌, subst, arith, append-nil, append_assoc, length-append, ◌⊎◌, inl, inr}
+use Rattle.std.specs.List.{All, flat_map}
+use Rattle.std.proofs.lemmas.Grind.{flat_map-append}
+use Rattle.std.proofs.lemmas.List.Elements.{All-nil, All-push}
+use Rattle.gp_plain.specs.declared.http.Response.{Response}
+use Rattle.gp_plain.specs.declared.reply.EndCause.{EndCause}
+use Rattle.gp_plain.specs.declared.reply.EndCause.TheVariants as cause
+use Rattle.gp_outside.specs.Dials.{DialTells, IsIdle}
+use Rattle.gp_outside.specs.Links.{LinkTells}
+use Rattle.gp_outbox.specs.declared.outbox.Flushed.TheVariants as flushed
+use Rattle.gp_hub.specs.declared.outcome.SessionEnd.{SessionEnd}
+use Rattle.gp_hub.specs.declared.outcome.SessionEnd.TheVariants as end
+use Rattle.gp_hub.specs.declared.outcome.Why.TheVariants as why
+use Rattle.std.specs.Prelude.{Result, Ok, Err, ◌==◌, ◌||◌, if◌then◌else◌}
+use Rattle.gp_body.specs.declared.plan.BodyPlan.{BodyPlan}
+use Rattle.gp_body.specs.declared.plan.BodyPlan.TheVariants.{None as NoBody, Length as BodyLength, Chunked as BodyChunked, ToClose}
+use Rattle.gp_body.specs.declared.plan.BodyFault.{BodyFault}
+use Rattle.gp_body.specs.Plans.{plan_of_response, length_plan}
+use Rattle.gp_answer.specs.declared.framing.Framing.TheVariants.{Close}
+use Rattle.gp_answer.specs.Framings.{bare, declared, planned}
+use Rattle.gp_answer.specs.Frames.{framed_by, last_chunk}
+use Rattle.gp_answer.proofs.Frames.{frame_law_holds}
+use Rattle.gp_exchange.specs.Views.{ExchangeView}
+use Rattle.gp_exchange.specs.Answers.{rank, head_of, IsOverBy, Waits}
+use Rattle.gp_exchange.specs.declared.answer.ExchangeFault.{ExchangeFault}
+use Rattle.gp_exchange.specs.declared.answer.Last.TheVariants as last
+use Rattle.gp_session.specs.Wires.{WireView, RequestRow, BytesRow, exactly, Sent, Flushes}
+use Rattle.gp_session.specs.Lines.{LineView, MovedLine, LineRow, Said, Last, idle, speaking, hung}
+use Rattle.gp_session.proofs.Moving.{rose_since}
+use Rattle.gp_session_http.specs.declared.asked.Asked.{Asked}
+use Rattle.gp_session_http.specs.declared.asking.Asking.{Asking as AskingStage}
+use Rattle.gp_session_http.specs.declared.passed.Passed.{Passed}
+use Rattle.gp_session_http.specs.declared.passing.Passing.{Passing as PassingStage}
+use Rattle.gp_session_http.specs.declared.finishing.Finishing.{Finishing as FinishingStage}
+use Rattle.gp_session_http.specs.declared.stage.Stage.TheVariants.{Passing, Finishing}
+use Rattle.gp_session_http.specs.declared.stage.Ended.{Ended}
+use Rattle.gp_session_http.specs.declared.stage.Next.{Next}
+use Rattle.gp_session_http.specs.declared.stage.Next.TheVariants.{Go, Wait, End}
+use Rattle.gp_session_http.specs.Asking.{IsPassed}
+use Rattle.gp_session_http.specs.Passing.{code_by, framing_by, head_by, in_chunks, is_bare_by, asked_of, origin_head, has_no_body, IsPassedOn, passed_text, ArePartsOf}
+use Rattle.gp_session_http.specs.Views.{LiveView, Moved, SaysMore}
+use Rattle.gp_session_http.specs.Trace.{Serves, IsPassing, HasEndedBy, IsPassedBy, Told}
+use Rattle.gp_session_http.specs.Moves.{waits, passed, PassedOn, Leads, StepsOn, HasAsked, said, HasHeadOf, IsBegunAt, HasGiven, HasGivenAll, IsCutBy, EndSays, end_by}
+use Rattle.gp_session_http.proofs.Rows.{with_wire, with_line, moved_line, moved_same, moved_again, moved_by_put, moved_unput, moved_flush, no_parts, says_put, says_same, says_again, told_flushed}
+use Rattle.gp_session_http.proofs.Answering.{put_on, put_none}
+
+-- how the text grows
+
+none_last : (chunked : Bool) → last_chunk chunked None ≡ []
+none_last true = refl
+none_last false = refl
+
+cut_last : (chunked : Bool) → last_chunk chunked (Some cause.Unrecovered) ≡ []
+cut_last true = refl
+cut_last false = refl
+
+pub grows_part : (p : Passed) (parts : List (List ℕ)) (part : List ℕ) → passed_text p (parts ++ part ∷ []) None ≡ passed_text p parts None ++ framed_by p.chunked part
+grows_part p parts part =
+    let before = passed_text p parts None in
+    frame_law_holds p.chunked (head_by (asked_of p) (origin_head p) p.status) parts (part ∷ []) None
+    ∙ ap (λ (x : List ℕ). before ++ x) (ap (λ (y : List ℕ). (framed_by p.chunked part ++ []) ++ y) (none_last p.chunked) ∙ append-nil (framed_by p.chunked part ++ []) ∙ append-nil (framed_by p.chunked part))
+
+pub grows_end : (p : Passed) (parts : List (List ℕ)) (c : EndCause) → passed_text p parts (Some c) ≡ passed_text p parts None ++ last_chunk p.chunked (Some c)
+grows_end p parts c =
+    ap (λ (x : List (List ℕ)). passed_text p x (Some c)) (sym (append-nil parts)) ∙ frame_law_holds p.chunked (head_by (asked_of p) (origin_head p) p.status) parts [] (Some c)
+
+cut_text : (p : Passed) (parts : List (List ℕ)) → passed_text p parts None ≡ passed_text p parts (Some cause.Unrecovered)
+cut_text p parts = sym (grows_end p parts cause.Unrecovered ∙ ap (λ (x : List ℕ). passed_text p parts None ++ x) (cut_last p.chunked) ∙ append-nil (passed_text p parts None))
+
+-- before a part, the text is the head
+first_text : (p : Passed) → head_by (asked_of p) (origin_head p) p.status ≡ passed_text p [] None
+first_text p = sym (ap (λ (x : List ℕ). head_by (asked_of p) (origin_head p) p.status ++ x) (none_last p.chunked) ∙ append-nil (head_by (asked_of p) (origin_head p) p.status))
+
+pub more_parts : (parts : List (List ℕ)) (given part : List ℕ) → ArePartsOf parts given → 0 < length part → ArePartsOf (parts ++ part ∷ []) (given ++ part)
+more_parts parts given part cut some = record {
+  some = All-push (λ (x : List ℕ). 0 < length x) parts part cut.some some;
+  joined = flat_map-append (λ (x : List ℕ). x) parts (part ∷ []) ∙ ap (λ (x : List ℕ). x ++ (part ++ [])) cut.joined ∙ ap (λ (x : List ℕ). given ++ x) (append-nil part);
+}
+
+-- the rows of a stage that passes on
+
+pub passing_rows : (l : LiveView) (s : PassingStage) (t : Told l (Passing s)) → HasAsked l (asked_of s.passed) s.exchange (speaking (said s.exchange t.given)) (passed_text s.passed t.parts None)
+passing_rows l s t = record { request = t.request; talks = t.talks; aim = t.aim; bytes = t.bytes; times = t.times; stays = t.stays }
+
+pub passing_told : (l : LiveView) (s : PassingStage) (parts : List (List ℕ)) (given : List ℕ) → ArePartsOf parts given → HasAsked l (asked_of s.passed) s.exchange (speaking (said s.exchange given)) (passed_text s.passed parts None)
+    → IsPassing s.passed s.exchange → Told l (Passing s)
+passing_told l s parts given cut h at = record { given = given; parts = parts; cut = cut; request = h.request; talks = h.talks; aim = h.aim; at = at; bytes = h.bytes; times = h.times; stays = h.stays }
+
+-- and of one whose response has ended, with the same exchange
+pub finishing_told : (l : LiveView) (p : Passed) (x : ExchangeView) (s : FinishingStage) (c : EndCause) (parts : List (List ℕ)) (given : List ℕ) → ArePartsOf parts given → s.passed ≡ p → s.exchange.value ≡ x → s.cause ≡ c
+    → HasAsked l (asked_of p) x (hung (said x given)) (passed_text p parts (Some c)) → IsPassedBy p x c parts → Told l (Finishing s)
+finishing_told l p x s c parts given cut same exchange is h at =
+    let h1 = subst (λ (q : Passed). HasAsked l (asked_of q) x (hung (said x given)) (passed_text q parts (Some c))) (sym same) h in
+    let h2 = subst (λ (y : ExchangeView). HasAsked l (asked_of s.passed) y (hung (said y given)) (passed_text s.passed parts (Some c))) (sym exchange) h1 in
+    let h3 = subst (λ (d : EndCause). HasAsked l (asked_of s.passed) s.exchange.value (hung (said s.exchange.value given)) (passed_text s.passed parts (Some d))) (sym is) h2 in
+    let a1 = subst (λ (q : Passed). IsPassedBy q x c parts) (sym same) at in
+    let a2 = subst (λ (y : ExchangeView). IsPassedBy s.passed y c parts) (sym exchange) a1 in
+    record {
+      given = given;
+      parts = parts;
+      cut = cut;
+      request = h3.request;
+      talks = h3.talks;
+      aim = h3.aim;
+      at = subst (λ (d : EndCause). IsPassedBy s.passed s.exchange.value d parts) (sym is) a2;
+      bytes = h3.bytes;
+      times = h3.times;
+      stays = h3.stays;
+    }
+
+-- an end for want of memory; the last part may not have been put
+pub passing_lost : (l : LiveView) (s : PassingStage) (parts : List (List ℕ)) (given text : List ℕ) (more : List ℕ) (n : ℕ) (u : LiveView) → Moved u l → ArePartsOf parts given
+    → HasAsked l (asked_of s.passed) s.exchange (hung (said s.exchange given)) text → passed_text s.passed parts None ≡ text ++ more → (ended : Ended) → ended ≡ record { end = end.NoMemory; why = why.Nothing } → Leads u l n (End ended)
+passing_lost l s parts given text more n u moved cut h grown ended is = subst (λ (x : Ended). Leads u l n (End x)) (sym is) (record {
+  moved = moved;
+  to = record {
+    stage = Passing s;
+    told = record {
+      given = given;
+      parts = parts;
+      cut = cut;
+      request = record { received = h.request.received; since = h.request.since; asks = record { used = h.request.received; unused = []; split = sym (append-nil h.request.received); asks = h.request.asks } };
+      talks = h.talks;
+      aim = h.aim;
+      at = tt;
+      bytes = (text, (more, sym grown), h.bytes);
+      times = tt;
+      stays = h.stays;
+    };
+    says = tt;
+    why_is = refl;
+  };
+})
+
+-- the client is gone
+pub passing_gone : (v : LiveView) (w : WireView) (l : LineView) (s : PassingStage) (told : Told v (Passing s)) → Flushes v.wire w flushed.Failed → Moved v (with_line (with_wire v w) l)
+    → HasAsked (with_line (with_wire v w) l) (asked_of s.passed) s.exchange (hung (said s.exchange told.given)) (passed_text s.passed told.parts None) → (ended : Ended) → ended ≡ record { end = end.ClientGone; why = why.Nothing }
+    → Leads v (with_line (with_wire v w) l) 2 (End ended)
+passing_gone v w l s told h moved rows ended is = subst (λ (x : Ended). Leads v (with_line (with_wire v w) l) 2 (End x)) (sym is) (record {
+  moved = moved;
+  to = record {
+    stage = Passing s;
+    told = record { given = told.given; parts = told.parts; cut = told.cut; request = rows.request; talks = rows.talks; aim = rows.aim; at = told.at; bytes = rows.bytes; times = rows.times; stays = rows.stays };
+    says = inl (rose_since v.wire w (λ (t : LinkTells). t.faults) h.start told.stays.links.faults h.cause.1);
+    why_is = refl;
+  };
+})
+
+-- the client doesn't take what waits
+pub passing_full : (v : LiveView) (w : WireView) (s : PassingStage) → Told v (Passing s) → Flushes v.wire w flushed.NotReady → Leads v (with_wire v w) 2 (Wait (Passing s))
+passing_full v w s told h = record {
+  moved = moved_flush v w flushed.NotReady h;
+  to = (
+    told_flushed v w (Passing s) flushed.NotReady told h,
+    waits (record { request = λ no. absurd no; talk = λ empty. absurd (h.cause.0 empty); writes = λ some. h.cause.1; some = inr (inr h.cause.0) }),
+  );
+}
+
+-- the talk has nothing to give
+pub passing_waits : (v : LiveView) (l : LineView) (s : PassingStage) → Moved v (with_line v l) → v.wire.rest ≡ [] → Told (with_line v l) (Passing s) → Waits s.exchange.place v.line.dial l.dial → Leads v (with_line v l) 2 (Wait (Passing s))
+passing_waits v l s moved empty told w = record {
+  moved = moved;
+  to = (told, waits (record { request = λ no. absurd no; talk = λ _. w; writes = λ some. absurd (some empty); some = inr (inl empty) }));
+}
+
+-- parts one after another
+
+pub none_passed : (v : LiveView) (chunked : Bool) → PassedOn v v chunked 0
+none_passed v chunked = record { parts = []; number = refl; some = All-nil _; before = []; says = says_same v.wire v.wire refl refl refl }
+
+pub one_passed : (u v w : LiveView) (chunked : Bool) (n : ℕ) (part : List ℕ) → PassedOn u v chunked n → 0 < length part → SaysMore v.wire w.wire (framed_by chunked part) → PassedOn u w chunked (n + 1)
+one_passed u v w chunked n part p some says = record {
+  parts = p.parts ++ part ∷ [];
+  number = length-append p.parts (part ∷ []) ∙ ap (λ (k : ℕ). k + 1) p.number;
+  some = All-push (λ (x : List ℕ). 0 < length x) p.parts part p.some some;
+  before = p.before;
+  says = λ text sent.
+      let old = p.before ++ flat_map (framed_by chunked) p.parts in
+      let all : old ++ framed_by chunked part ≡ p.before ++ flat_map (framed_by chunked) (p.parts ++ part ∷ []) =
+      append_assoc p.before (flat_map (framed_by chunked) p.parts) (framed_by chunked part)
+      ∙ ap (λ (x : List ℕ). p.before ++ x) (ap (λ (x : List ℕ). flat_map (framed_by chunked) p.parts ++ x) (sym (append-nil (framed_by chunked part))) ∙ sym (flat_map-append (framed_by chunked) p.parts (part ∷ []))) in
+      subst (λ (more : List ℕ). Sent w.wire (text ++ more)) all (says_again u.wire v.wire w.wire old (framed_by chunked part) p.says says text sent);
+}
+
+pub sixteen_passed : (u v : LiveView) (s : PassingStage) (n : ℕ) → Moved u v → Told v (Passing s) → n ≡ 16 → PassedOn u v s.passed.chunked n → Leads u v 2 (Wait (Passing s))
+sixteen_passed u v s n moved told is p = record { moved = moved; to = (told, passed (subst (PassedOn u v s.passed.chunked) is p)) }
+
+-- how a response ends
+pub says_end : (v : LiveView) (w : WireView) (s : FinishingStage) → Told v (Finishing s) → w.rest ≡ [] → (e : SessionEnd) → e ≡ end_by s.passed.code s.cause → EndSays e (with_wire v w) (Finishing s)
+says_end v w s told empty e is = subst (λ (x : SessionEnd). EndSays x (with_wire v w) (Finishing s)) (sym is) (by_cause s.cause refl told.at.ended)
+  where
+    by_cause : (c : EndCause) → s.cause ≡ c → HasEndedBy c s.passed s.exchange.value → EndSays (end_by s.passed.code c) (with_wire v w) (Finishing s)
+    by_cause cause.Closed same ended = (empty, (refl, same))
+    by_cause cause.Unrecovered same ended = (empty, (sym same, same))
+    by_cause cause.Detached same ended = absurd ended
+    by_cause cause.Gap same ended = absurd ended
+    by_cause cause.Overflow same ended = absurd ended
+    by_cause cause.Answered same ended = absurd ended
+    by_cause cause.Retry same ended = absurd ended
+    by_cause cause.TimedOut same ended = absurd ended
+
+-- an answer without a body isn't in chunks
+
+flat_declared : (r : Result BodyPlan BodyFault) → in_chunks (declared r) ≡ false
+flat_declared (Ok (BodyLength bytes)) = refl
+flat_declared (Ok NoBody) = refl
+flat_declared (Ok BodyChunked) = refl
+flat_declared (Ok ToClose) = refl
+flat_declared (Err fault) = refl
+
+flat_bare : (b : Bool) (r : Result BodyPlan BodyFault) → in_chunks (if b then Close else declared r) ≡ false
+flat_bare true r = refl
+flat_bare false r = flat_declared r
+
+bare_flat : (asked : Asked) (head : Response) (status : Option ℕ) → is_bare_by asked head status ≡ true → in_chunks (framing_by asked head status) ≡ false
+bare_flat asked head status is =
+    let sent = code_by head status in
+    ap (λ (b : Bool). in_chunks (if b then bare head sent else planned (plan_of_response head asked.request.head.method) asked.request.head.version)) is
+    ∙ flat_bare ((head.code == 204) || (sent == 204)) (length_plan head.fields)
+
+-- the first stage behind a head
+
+module _ (s : AskingStage) (head : Response) (status : Option ℕ) (p : Passed) (asked : p.asked.value ≡ s.asked) (origin : p.head.value ≡ head) (status_is : p.status ≡ status)
+    (code : p.code ≡ code_by head status) (chunked : p.chunked ≡ in_chunks (framing_by s.asked head status)) where
+  -- what is said of the head and the status is so of how it is passed on
+  as_passed : (P : Asked → Response → Option ℕ → Type 0) → P s.asked head status → P (asked_of p) (origin_head p) p.status
+  as_passed P h = subst (λ (o : Option ℕ). P (asked_of p) (origin_head p) o) (sym status_is) (subst (λ (r : Response). P (asked_of p) r status) (sym origin) (subst (λ (a : Asked). P a head status) (sym asked) h))
+
+  pub is_passed_on : IsPassed s.asked.request.head.method head status → IsPassedOn p
+  is_passed_on is = record {
+    passed = as_passed (λ a r o. IsPassed a.request.head.method r o) is;
+    code = as_passed (λ a r o. p.code ≡ code_by r o) code;
+    chunked = as_passed (λ a r o. p.chunked ≡ in_chunks (framing_by a r o)) chunked;
+  }
+
+  pub is_bare : (b : Bool) → is_bare_by s.asked head status ≡ b → has_no_body p ≡ b
+  is_bare b is = as_passed (λ a r o. is_bare_by a r o ≡ b) is
+
+  pub first_rows : (l : LiveView) (a : Last) → HasAsked l s.asked s.exchange a (head_by s.asked head status) → HasAsked l (asked_of p) s.exchange a (passed_text p [] None)
+  first_rows l a h = subst (HasAsked l (asked_of p) s.exchange a) (first_text p) (as_passed (λ b r o. HasAsked l b s.exchange a (head_by b r o)) h)
+
+  first_head : HasHeadOf s.exchange head → head_of s.exchange.place ≡ Some (origin_head p)
+  first_head has = has.head_is ∙ ap Some (sym origin)
+
+  pub passes_body : (l : LiveView) (t : PassingStage) → t.passed ≡ p → t.exchange ≡ s.exchange → IsBegunAt l s head status → IsPassed s.asked.request.head.method head status → is_bare_by s.asked head status ≡ false → Told l (Passing t)
+  passes_body l t same exchange begun is body =
+      let here : PassingStage = record { passed = p; exchange = s.exchange } in
+      subst (λ (q : PassingStage). Told l (Passing q)) (sym (ap (λ (q : Passed). record { passed = q; exchange = t.exchange }) same ∙ ap (λ (x : ExchangeView). record { passed = p; exchange = x }) exchange))
+      (passing_told l here [] [] no_parts (first_rows l (speaking (said s.exchange [])) begun.rows)
+      (record { reading = begun.has.reading; head = first_head begun.has; on = is_passed_on is; body = is_bare false body }))
+
+  pub passes_none : (l : LiveView) (t : FinishingStage) → t.passed ≡ p → t.exchange.value ≡ s.exchange → t.cause ≡ cause.Closed → HasAsked l s.asked s.exchange (hung (said s.exchange [])) (head_by s.asked head status) → HasHeadOf s.exchange head
+      → IsPassed s.asked.request.head.method head status → is_bare_by s.asked head status ≡ true → Told l (Finishing t)
+  passes_none l t same exchange is rows has on none =
+      let flat : p.chunked ≡ false = chunked ∙ bare_flat s.asked head status none in
+      let text : passed_text p [] None ≡ passed_text p [] (Some cause.Closed) = sym (grows_end p [] cause.Closed ∙ ap (λ (x : List ℕ). passed_text p [] None ++ x) (ap (λ (b : Bool). last_chunk b (Some cause.Closed)) flat) ∙ append-nil (passed_text p [] None)) in
+      finishing_told l p s.exchange t cause.Closed [] [] no_parts same exchange is (subst (HasAsked l (asked_of p) s.exchange (hung (said s.exchange []))) text (first_rows l (hung (said s.exchange [])) rows))
+      (record { head = first_head has; on = is_passed_on on; ended = inr (is_bare true none); bare = λ b. refl })

@@ -1,0 +1,217 @@
+//! The session.
+ghost use Rattle.std.specs.Prelude.{◌≡◌, MatchResult, option_map};
+ghost use Rattle.gp_hub.specs.Sessions.{HasPolled};
+ghost use Rattle.gp_session.specs.Seats.{IsFresh};
+ghost use Rattle.gp_session_http.specs.Moves.{Finishes};
+ghost use Rattle.gp_session_http.specs.Polls.{Ends, HasEnded, IsNew, Leaves, MayGive, PollsTo, Waits, begun, new_session};
+
+use crate::finish::Finish;
+use crate::live::Live;
+use crate::reading_head::ReadingHead;
+use crate::stage::{Ended, Next, Stage};
+use gp_hub::{Hub, HubPass, Outcome, Polled, Session};
+use gp_intake::HeadIntake;
+use gp_outside::{Clock, Dial, Link};
+use gp_plain::{Body, HoldReports, Signer};
+use gp_routes::Routes;
+use gp_session::{Line, Seat, Watch, Wire};
+use std::alloc::Global;
+use std::marker::Model;
+
+/// A session that goes on: its ends, and what it expects. Its rows hold.
+#[derive(Drop)]
+pub(crate) struct Open<'h, L: Link, D: Dial, C: Clock> {
+    live: Live<'h, L, D, C>,
+    stage: Stage,
+}
+
+impl<'h, L: Link, D: Dial, C: Clock> Model for Open<'h, L, D, C> {
+    ghost use Rattle.gp_session_http.specs.Polls.{OpenView};
+    ghost use Rattle.gp_session_http.specs.Trace.{Told};
+
+    ghost Value = { OpenView };
+
+    ghost view = { λ o. record { live = o.live; stage = o.stage } };
+
+    ghost invariant = { λ o. Told o.live o.stage };
+}
+
+/// The devices of a session.
+#[derive(Drop)]
+pub(crate) struct Devices<L: Link, D: Dial, C: Clock> {
+    link: L,
+    dial: D,
+    clock: C,
+}
+
+impl<L: Link, D: Dial, C: Clock> Model for Devices<L, D, C> {
+    ghost use Rattle.gp_session_http.specs.Polls.{DevicesView};
+
+    ghost Value = { DevicesView };
+
+    ghost view = { λ d. record { link = L.tells d.link; dial = D.tells d.dial; clock = C.tells d.clock } };
+}
+
+impl<L: Link, D: Dial, C: Clock> Devices<L, D, C> {
+    fn parts(self) -> (L, D, C)
+        ensures { record { link = L.tells result.0; dial = D.tells result.1; clock = C.tells result.2 } ≡ self }
+    {
+        (self.link, self.dial, self.clock)
+    }
+}
+
+/// A session with a client of HTTP. It reads one request, asks the origin of the first route that it meets, and passes the
+/// response on, part by part. A request that no route meets is answered 404, one for a WebSocket 501, and one whose origin gives no
+/// response that can be passed on 502.
+#[derive(Drop)]
+pub struct HttpSession<'h, L: Link, D: Dial, C: Clock> {
+    open: Option<Open<'h, L, D, C>>,
+    left: Option<Devices<L, D, C>>,
+}
+
+impl<'h, L: Link, D: Dial, C: Clock> Model for HttpSession<'h, L, D, C> {
+    ghost use Rattle.std.specs.Prelude.{◌≡◌, ◌⊎◌, None};
+    ghost use Rattle.gp_session_http.specs.Polls.{SessionView};
+
+    ghost Value = { SessionView };
+
+    ghost view = { λ s. record { open_is = s.open; left = s.left } };
+
+    ghost invariant = { λ s. (s.open ≡ None) ⊎ (s.left ≡ None) };
+}
+
+/// What a session leaves: its outcome, and its devices.
+type Left<L, D, C> = (Outcome, Devices<L, D, C>);
+
+/// What the ends of a session leave. It attached no hold, and published nothing.
+fn left<'h, L: Link, D: Dial, C: Clock>(
+    live: Live<'h, L, D, C>,
+    ended: Ended,
+) -> Left<L, D, C>
+    requires { Finishes live ended }
+    ensures { Leaves live.entry result.0 result.1 }
+{
+    let outcome = Outcome {
+        end: ended.end,
+        why: ended.why,
+        published: 0,
+        holds: HoldReports::new(live.alloc),
+        pass: live.seat.into_pass(),
+    };
+    let devices = Devices {
+        link: live.wire.into_link(),
+        dial: live.line.into_dial(),
+        clock: live.watch.into_clock(),
+    };
+    (outcome, devices)
+}
+
+impl<'h, L: Link, D: Dial, C: Clock> Open<'h, L, D, C> {
+    /// A session that begins.
+    fn new(live: Live<'h, L, D, C>) -> Open<'h, L, D, C>
+        requires new { IsNew live }
+        ensures { result ≡ begun live.entry }
+    {
+        let alloc = live.alloc;
+        Open {
+            live,
+            stage: Stage::ReadingHead(ReadingHead {
+                intake: HeadIntake::new(alloc),
+            }),
+        }
+    }
+
+    /// Makes moves until one waits, or ends the session.
+    fn advance(self) -> Result<Open<'h, L, D, C>, Left<L, D, C>>
+        ensures { MatchResult result (Waits self.entry.live) (λ left. Ends self.entry.live left.0 left.1) }
+    {
+        let Open {
+            mut live,
+            mut stage,
+        } = self;
+        live.watch.begin();
+        loop {
+            match stage.advance(&mut live) {
+                Next::Go(next) => stage = next,
+                Next::Wait(next) => return Ok(Open { live, stage: next }),
+                Next::End(ended) => return Err(left(live, ended)),
+            }
+        }
+    }
+}
+
+impl<'h, L: Link, D: Dial, C: Clock> HttpSession<'h, L, D, C> {
+    /// A session of a client's link, over a dialer of origins and a clock. No entry of what the pass has seen is of a number of its
+    /// range. Tokens are signed by the signer's key, where it has one. It takes no memory.
+    pub fn new(
+        alloc: Global,
+        hub: &'h Hub,
+        pass: HubPass,
+        routes: &'h Routes,
+        signer: &'h Signer,
+        tag: Body,
+        link: L,
+        dial: D,
+        clock: C,
+    ) -> HttpSession<'h, L, D, C>
+        requires turn { pass.turn ≡ hub.now }
+        requires fresh { IsFresh pass }
+        ensures { result ≡ new_session (record { link = L.tells link; dial = D.tells dial; clock = C.tells clock }) pass (record { rules = routes.now; signer = signer.now; tag = tag }) }
+    {
+        // A range has at least one number, its pass's own.
+        let _some = pass.spare();
+        let live = Live {
+            alloc,
+            wire: Wire::new(alloc, link),
+            line: Line::new(dial),
+            watch: Watch::new(clock),
+            seat: Seat::new(hub, pass),
+            routes,
+            signer,
+            tag,
+        };
+        HttpSession {
+            open: Some(Open::new(live)),
+            left: None,
+        }
+    }
+
+    /// The devices as they stand, once a poll gave an outcome, and None before. It takes no memory.
+    pub fn parts(self) -> Option<(L, D, C)>
+        ensures { option_map (λ d. record { link = L.tells d.0; dial = D.tells d.1; clock = C.tells d.2 }) result ≡ self.entry.left }
+    {
+        let HttpSession { open: _, left } = self;
+        match left {
+            Some(devices) => Some(devices.parts()),
+            None => None,
+        }
+    }
+}
+
+impl<'h, L: Link, D: Dial, C: Clock> Session for HttpSession<'h, L, D, C> {
+    type Output = Finish<L, D, C>;
+
+    ghost ended = { HasEnded };
+
+    ghost may_give = { MayGive };
+
+    fn poll(&mut self) -> Polled<Finish<L, D, C>>
+        requires open { HasEnded self.old → ⊥ }
+        ensures polled { HasPolled HasEnded MayGive self.old self.new result }
+        ensures turned { PollsTo self.old self.new result }
+    {
+        match self.open.take() {
+            Some(open) => match open.advance() {
+                Ok(open) => {
+                    self.open = Some(open);
+                    Polled::Pending
+                }
+                Err((outcome, devices)) => {
+                    self.left = Some(devices);
+                    Polled::Ready(Finish::Done(outcome))
+                }
+            },
+            None => unreachable!(),
+        }
+    }
+}
