@@ -5,6 +5,8 @@ use Rattle.std.proofs.lemmas.List.Elements.{All-nil}
 use Rattle.atomic_table.specs.Seated.{TableId}
 use Rattle.gp_plain.specs.declared.event.Entry.{Entry}
 use Rattle.gp_plain.specs.Others.{Share, shares}
+use Rattle.gp_outside.specs.Clocks.{ClockTells}
+use Rattle.gp_outside.specs.Dials.{DialTells}
 use Rattle.gp_outside.specs.Links.{LinkTells}
 use Rattle.gp_outside.specs.Unused.{IsUnusedLink}
 use Rattle.gp_turn.specs.declared.range.Range.{Range}
@@ -19,7 +21,7 @@ use Rattle.gp_session_publish.specs.Trace.{Makes}
 use Rattle.gp_workers.specs.declared.maker.Finished.{Finished}
 use Rattle.gp_workers.specs.Makers.{IsGiven, IsUnused, numbers}
 use Rattle.gp_workers.specs.Reports.{hold_report, owned, published_by}
-use Rattle.gp_maker.specs.Meanings.{LeavesPublisher, Means, publisher}
+use Rattle.gp_maker.specs.Meanings.{LeavesPublisher, Means, ServerView, publisher}
 use Rattle.gp_maker.proofs.Owners.{all_apart, count_published, owned_shares, published_mine, publishes}
 
 -- each entry of a session is a publication
@@ -44,9 +46,9 @@ in_ranges turn p q n u same some =
     subst (λ (rs : List Range). 0 < times_in n rs) (same_ranges p q same) (own_range n (range p.number p.spare) p.past own)
 
 module _ {L D C : Type 0} where
-  given_from : (tells : L → LinkTells) (turn : TableId) (claim : ℕ) (start : LinkTells) (pass : HubView) (over : Finished L D C) (l : LeavesPublisher tells start pass over)
-      → IsUnused turn l.live.seat.start → IsUnusedLink start → IsGiven (Means tells) turn claim l.live.seat.start.number over
-  given_from tells turn claim start pass over l u link =
+  given_from : (links : L → LinkTells) (dials : D → DialTells) (clocks : C → ClockTells) (server : ServerView) (turn : TableId) (claim : ℕ) (start : LinkTells) (pass : HubView) (over : Finished L D C) (l : LeavesPublisher links start pass over)
+      → IsUnused turn l.live.seat.start → IsUnusedLink start → IsGiven (Means links dials clocks server) turn claim l.live.seat.start.number over
+  given_from links dials clocks server turn claim start pass over l u link =
       let seat = l.live.seat in
       let first = seat.start.number in
       let r = range first numbers in
@@ -73,7 +75,7 @@ module _ {L D C : Type 0} where
       }
 
   -- what a publisher's session leaves that began with an unused pass, over an unused link
-  pub given : (tells : L → LinkTells) (turn : TableId) (claim : ℕ) (start : LinkTells) (pass : HubView) (over : Finished L D C)
-      → IsUnused turn pass → IsUnusedLink start → LeavesPublisher tells start pass over → IsGiven (Means tells) turn claim pass.number over
-  given tells turn claim start pass over unused link l =
-      subst (λ (n : ℕ). IsGiven (Means tells) turn claim n over) (ap (λ (p : HubView). p.number) l.pass_is) (given_from tells turn claim start pass over l (subst (IsUnused turn) (sym l.pass_is) unused) link)
+  pub given : (links : L → LinkTells) (dials : D → DialTells) (clocks : C → ClockTells) (server : ServerView) (turn : TableId) (claim : ℕ) (start : LinkTells) (pass : HubView) (over : Finished L D C)
+      → IsUnused turn pass → IsUnusedLink start → LeavesPublisher links start pass over → IsGiven (Means links dials clocks server) turn claim pass.number over
+  given links dials clocks server turn claim start pass over unused link l =
+      subst (λ (n : ℕ). IsGiven (Means links dials clocks server) turn claim n over) (ap (λ (p : HubView). p.number) l.pass_is) (given_from links dials clocks server turn claim start pass over l (subst (IsUnused turn) (sym l.pass_is) unused) link)

@@ -4,4 +4,6 @@
 //! sessions, and on `gp_workers`, whose workers ask a maker for them.
 #![tactic(auto)]
 
+mod client;
 mod publisher;
+mod server;
