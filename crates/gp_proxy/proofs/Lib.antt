@@ -6,3 +6,4 @@ pub mod Plays
 pub mod Saying
 pub mod Handing
 pub mod Serving
+pub mod Asking

@@ -11,3 +11,4 @@ pub mod Commands
 pub mod Runs
 pub mod ReportTexts
 pub mod Serves
+pub mod RoutesRead

@@ -12,6 +12,7 @@ mod options;
 mod play;
 mod replays;
 mod report;
+mod routes;
 mod script;
 mod status;
 mod server;

@@ -1,5 +1,5 @@
 //! The options of `serve`.
-ghost use Rattle.std.specs.Prelude.{◌≡◌, ◌≤◌, map, string_bytes, option_map, IfOk};
+ghost use Rattle.std.specs.Prelude.{◌≡◌, ◌≤◌, map, string_bytes, option_map, IfOk, IfSome};
 ghost use Rattle.gp_proxy.specs.Options.{asked_by, choice_of, free_choice, is_free, key_of, nothing_asked, option_with, options_of, ranged, with_value};
 
 use gp_plain::Body;
@@ -47,10 +47,12 @@ pub(crate) struct Asked<'a> {
 }
 
 impl<'a> Model for Asked<'a> {
-    ghost use Rattle.std.specs.Prelude.{option_map};
+    ghost use Rattle.std.specs.Prelude.{◌≤◌, IfSome, option_map};
     ghost use Rattle.gp_proxy.specs.Options.{Asked};
 
     ghost Value = { Asked };
+
+    ghost invariant = { λ a. IfSome a.workers (λ n. n ≤ 16) };
 
     ghost view = { λ a. record { workers = a.workers; sessions = a.sessions; client = a.client; publish = a.publish; key = option_map (λ key. key.now) a.key } };
 }
@@ -58,7 +60,8 @@ impl<'a> Model for Asked<'a> {
 /// The number that a word is, from 1 to the greatest.
 fn ranged(most: u32, word: &[u8]) -> Option<u32>
     requires { most ≤ 100000 }
-    ensures { result ≡ ranged most word.now }
+    ensures value { result ≡ ranged most word.now }
+    ensures most { IfSome result (λ number. number ≤ most) }
 {
     if word.is_empty() || word[0] == b'0' {
         return None;
@@ -205,7 +208,8 @@ impl<'a> Asked<'a> {
 
     /// The options, with the default of each that wasn't given. A key is copied.
     pub fn options(self, alloc: Global) -> Result<Options, AllocError>
-        ensures { IfOk result (λ options. options ≡ options_of self.entry) }
+        ensures value { IfOk result (λ options. options ≡ options_of self.entry) }
+        ensures workers { IfOk result (λ options. options.workers ≤ 16) }
     {
         let key = match self.key {
             Some(key) => Some(Body::new(alloc, key)?),
