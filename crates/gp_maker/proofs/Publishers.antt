@@ -1,5 +1,5 @@
 -- What a publisher's session leaves is what a maker says of it.
-use Rattle.std.proofs.Common.{◌≡◌, ℕ, ◌<◌, ◌==◌, true, List, [], ◌∷◌, map, filter, length, refl, sym, ap, ◌∙◌, arith, subst}
+use Rattle.std.proofs.Common.{◌≡◌, ℕ, ◌<◌, ◌==◌, true, List, [], ◌∷◌, map, filter, length, refl, sym, ap, ◌∙◌, arith, subst, Some, None, Option, IfSome}
 use Rattle.std.specs.List.{All, count_by}
 use Rattle.std.proofs.lemmas.List.Elements.{All-nil}
 use Rattle.atomic_table.specs.Seated.{TableId}
@@ -17,11 +17,12 @@ use Rattle.gp_hub.specs.Own.{mine}
 use Rattle.gp_session.specs.Seats.{IsSamePass}
 use Rattle.gp_session_publish.specs.declared.stage.Stage.{Stage}
 use Rattle.gp_session_publish.specs.declared.stage.Stage.TheVariants.{ReadingHead, ReadingBody, Publishing, Answering, Refusing}
+use Rattle.gp_session_publish.specs.Polls.{SessionView, new_session}
 use Rattle.gp_session_publish.specs.Trace.{Makes}
 use Rattle.gp_workers.specs.declared.maker.Finished.{Finished}
 use Rattle.gp_workers.specs.Makers.{IsGiven, IsUnused, numbers}
 use Rattle.gp_workers.specs.Reports.{hold_report, owned, published_by}
-use Rattle.gp_maker.specs.Meanings.{LeavesPublisher, Means, ServerView, publisher}
+use Rattle.gp_maker.specs.Meanings.{GivesPublisher, LeavesPublisher, Means, ServerView, publisher}
 use Rattle.gp_maker.proofs.Owners.{all_apart, count_published, owned_shares, published_mine, publishes}
 
 -- each entry of a session is a publication
@@ -40,7 +41,7 @@ same_ranges p q same =
 own_range : (n : ℕ) (r : Range) (rs : List Range) → 0 < times_in n (r ∷ []) → 0 < times_in n (r ∷ rs)
 own_range n r rs some = let none : times_in n [] ≡ 0 = refl in omega (arith, some, times-cons n r [], times-cons n r rs, none)
 
-in_ranges : (turn : TableId) (p q : HubView) (n : ℕ) → IsUnused turn p → IsSamePass p q → 0 < times_in n (range p.number numbers ∷ []) → 0 < times_in n (ranges_of q)
+pub in_ranges : (turn : TableId) (p q : HubView) (n : ℕ) → IsUnused turn p → IsSamePass p q → 0 < times_in n (range p.number numbers ∷ []) → 0 < times_in n (ranges_of q)
 in_ranges turn p q n u same some =
     let own : 0 < times_in n (range p.number p.spare ∷ []) = subst (λ (k : ℕ). 0 < times_in n (range p.number k ∷ [])) (sym u.spare) some in
     subst (λ (rs : List Range). 0 < times_in n rs) (same_ranges p q same) (own_range n (range p.number p.spare) p.past own)
@@ -79,3 +80,10 @@ module _ {L D C : Type 0} where
       → IsUnused turn pass → IsUnusedLink start → LeavesPublisher links start pass over → IsGiven (Means links dials clocks server) turn claim pass.number over
   given links dials clocks server turn claim start pass over unused link l =
       subst (λ (n : ℕ). IsGiven (Means links dials clocks server) turn claim n over) (ap (λ (p : HubView). p.number) l.pass_is) (given_from links dials clocks server turn claim start pass over l (subst (IsUnused turn) (sym l.pass_is) unused) link)
+
+  -- so it is of a session that was just made
+  pub gives_new : (links : L → LinkTells) (dials : D → DialTells) (clocks : C → ClockTells) (server : ServerView) (turn : TableId) (claim : ℕ) (start : LinkTells) (pass : HubView) (session : Option SessionView) (over : Finished L D C)
+      → session ≡ Some (new_session start pass) → IsUnused turn pass → IsUnusedLink start
+      → IfSome session (λ (s : SessionView). GivesPublisher links s over) → IsGiven (Means links dials clocks server) turn claim pass.number over
+  gives_new links dials clocks server turn claim start pass session over is unused link may =
+      given links dials clocks server turn claim start pass over unused link (subst (λ (o : Option SessionView). IfSome o (λ (s : SessionView). GivesPublisher links s over)) is may)

@@ -8,7 +8,6 @@ pub mod Loads
 pub mod Options
 pub mod Words
 pub mod Commands
-pub mod Runs
 pub mod ReportTexts
 pub mod Serves
 pub mod RoutesRead

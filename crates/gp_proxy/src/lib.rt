@@ -5,7 +5,7 @@
 //! It stands on the registry, on the texts of `gp_script`, and on files and a sink that it is lent.
 #![tactic(auto)]
 
-mod command;
+mod lent;
 mod log;
 mod logs;
 mod options;
@@ -18,7 +18,6 @@ mod status;
 mod server;
 mod words;
 
-pub use command::run;
 pub use gp_registry::Registry;
 pub use replays::replay;
 pub use status::Status;
