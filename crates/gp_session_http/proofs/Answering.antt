@@ -308,3 +308,6 @@ flushed_on v w f h asked x a text r = record {
   times = r.times;
   stays = stays_wire v w (moved_flushed v.wire w f h) r.stays;
 }
+
+pub put_last : (body tail last : List ℕ) → body ≡ [] → tail ≡ last → [] ++ (body ++ tail) ≡ last
+put_last body tail last none is = ap (λ (x : List ℕ). x ++ tail) none ∙ is

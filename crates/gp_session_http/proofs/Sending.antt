@@ -206,6 +206,9 @@ steps_live v x w chunked st e s = subst (λ (y : LiveView). StepsTo y w chunked 
 pub steps_is : (v w : LiveView) (chunked : Bool) (a b : Step) → a ≡ b → StepsTo v w chunked b → StepsTo v w chunked a
 steps_is v w chunked a b e s = subst (StepsTo v w chunked) (sym e) s
 
+pub steps_at : (v w x : LiveView) (chunked : Bool) (st : Step) → x ≡ w → StepsTo v w chunked st → StepsTo v x chunked st
+steps_at v w x chunked st e s = subst (λ (y : LiveView). StepsTo v y chunked st) (sym e) s
+
 -- the body still goes on
 pub still_reads : (x y : ExchangeView) (old now : DialTells) → rank x.place ≡ 4 → Gives x.place y.place old now NotReady → rank y.place ≡ 4
 still_reads x y old now four g = by_place y.place (omega (arith, four, g.0)) g.1
@@ -255,10 +258,10 @@ module _ (v : LiveView) (l : LineView) (s : PassingStage) (told : Told v (Passin
 
   pub cut_short : (f : ExchangeFault) → IsOverBy (last.Fault f) y.place → (LineRow v.line [] (speaking (said s.exchange told.given)) → LineRow l [] (speaking (said y (told.given ++ []))))
       → (t : FinishingStage) → t.passed ≡ s.passed → t.exchange.value ≡ y → t.cause ≡ cause.Unrecovered → Leads v (with_line v l) 2 (Go (Finishing t))
-  cut_short f over row t passed exchange is = record {
+  cut_short f over row t whose exchange is = record {
     moved = moved_line v l moved;
     to = (
-      finishing_told (with_line v l) s.passed y t cause.Unrecovered told.parts told.given told.cut passed exchange is
+      finishing_told (with_line v l) s.passed y t cause.Unrecovered told.parts told.given told.cut whose exchange is
       (subst (HasAsked (with_line v l) (asked_of s.passed) y (hung (said y told.given))) (cut_text s.passed told.parts) (over_rows (last.Fault f) over row))
       (record { head = head ∙ told.at.head; on = told.at.on; ended = (f, over); bare = λ b. (let no : true ≡ false = sym b ∙ told.at.body in let never : ⊥ = cc in absurd never) }),
       omega arith,
