@@ -24,11 +24,12 @@ use Rattle.gp_exchange.specs.declared.answer.Last.{Last as ExchangeLast}
 use Rattle.gp_exchange.specs.declared.answer.Last.TheVariants as last
 use Rattle.gp_exchange.specs.declared.place.Place.{Place}
 use Rattle.gp_exchange.specs.declared.place.Place.TheVariants as place
-use Rattle.gp_session.specs.Wires.{WireView, RequestRow, BytesRow, exactly, Sent}
+use Rattle.gp_outbox.specs.declared.outbox.Flushed.{Flushed}
+use Rattle.gp_session.specs.Wires.{WireView, RequestRow, BytesRow, exactly, Sent, Flushes}
 use Rattle.gp_session.specs.Lines.{LineView, MovedLine, LineRow, Said, Last, idle, speaking, hung}
 use Rattle.gp_session.specs.Watches.{WatchView, WatchRow, MovedWatch, Uses, Asks as AsksClock}
 use Rattle.gp_session.proofs.Lining.{begins_talk, is_hung}
-use Rattle.gp_session.proofs.Moving.{request_same, sent_same, sent_put, moved_put}
+use Rattle.gp_session.proofs.Moving.{request_same, sent_same, sent_put, sent_flushed, moved_put, moved_flushed}
 use Rattle.gp_session_http.specs.declared.asked.Asked.{Asked}
 use Rattle.gp_session_http.specs.declared.asking.Asking.{Asking as AskingStage}
 use Rattle.gp_session_http.specs.declared.failing.Failing.{Failing as FailingStage}
@@ -296,3 +297,17 @@ asking_waits v l s moved h at w = record {
 -- the client's head is put
 pub put_head : (bytes text body head : List ℕ) → bytes ≡ text → text ≡ head → body ≡ [] → bytes ++ (body ++ []) ≡ head
 put_head bytes text body head same is none = ap (λ (x : List ℕ). bytes ++ (x ++ [])) none ∙ append-nil bytes ∙ same ∙ is
+
+-- what waited was sent, as far as the link took it
+pub flushed_on : (v : LiveView) (w : WireView) (f : Flushed) → Flushes v.wire w f → (asked : Asked) (x : ExchangeView) (a : Last) (text : List ℕ) → HasAsked v asked x a text → HasAsked (with_wire v w) asked x a text
+flushed_on v w f h asked x a text r = record {
+  request = request_same v.wire w (Serves v.charter asked) (Serves v.charter asked) r.request h.start h.passed.received (λ received s. s);
+  talks = r.talks;
+  aim = r.aim;
+  bytes = sent_flushed v.wire w text f r.bytes h;
+  times = r.times;
+  stays = stays_wire v w (moved_flushed v.wire w f h) r.stays;
+}
+
+pub put_last : (body tail last : List ℕ) → body ≡ [] → tail ≡ last → [] ++ (body ++ tail) ≡ last
+put_last body tail last none is = ap (λ (x : List ℕ). x ++ tail) none ∙ is

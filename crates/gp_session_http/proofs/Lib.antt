@@ -3,3 +3,4 @@ pub mod Putting
 pub mod Hearing
 pub mod Answering
 pub mod Sending
+pub mod Turning

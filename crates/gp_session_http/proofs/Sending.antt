@@ -22,7 +22,11 @@ use Rattle.gp_answer.specs.Framings.{bare, declared, planned}
 use Rattle.gp_answer.specs.Frames.{framed_by, last_chunk}
 use Rattle.gp_answer.proofs.Frames.{frame_law_holds}
 use Rattle.gp_exchange.specs.Views.{ExchangeView}
-use Rattle.gp_exchange.specs.Answers.{rank, head_of, IsOverBy, Waits}
+use Rattle.gp_exchange.specs.Answers.{rank, head_of, IsOverBy, Gives, Waits}
+use Rattle.gp_exchange.specs.declared.answer.Progress.TheVariants.{NotReady}
+use Rattle.gp_exchange.specs.declared.answer.Last.{Last as ExchangeLast}
+use Rattle.gp_exchange.specs.declared.place.Place.{Place}
+use Rattle.gp_exchange.specs.declared.place.Place.TheVariants as place
 use Rattle.gp_exchange.specs.declared.answer.ExchangeFault.{ExchangeFault}
 use Rattle.gp_exchange.specs.declared.answer.Last.TheVariants as last
 use Rattle.gp_session.specs.Wires.{WireView, RequestRow, BytesRow, exactly, Sent, Flushes}
@@ -41,9 +45,11 @@ use Rattle.gp_session_http.specs.Asking.{IsPassed}
 use Rattle.gp_session_http.specs.Passing.{code_by, framing_by, head_by, in_chunks, is_bare_by, asked_of, origin_head, has_no_body, IsPassedOn, passed_text, ArePartsOf}
 use Rattle.gp_session_http.specs.Views.{LiveView, Moved, SaysMore}
 use Rattle.gp_session_http.specs.Trace.{Serves, IsPassing, HasEndedBy, IsPassedBy, Told}
-use Rattle.gp_session_http.specs.Moves.{waits, passed, PassedOn, Leads, StepsOn, HasAsked, said, HasHeadOf, IsBegunAt, HasGiven, HasGivenAll, IsCutBy, EndSays, end_by}
-use Rattle.gp_session_http.proofs.Rows.{with_wire, with_line, moved_line, moved_same, moved_again, moved_by_put, moved_unput, moved_flush, no_parts, says_put, says_same, says_again, told_flushed}
-use Rattle.gp_session_http.proofs.Answering.{put_on, put_none}
+use Rattle.gp_session_http.specs.declared.passing.Step.{Step}
+use Rattle.gp_session_http.specs.declared.passing.Step.TheVariants as step
+use Rattle.gp_session_http.specs.Moves.{waits, passed, StepsTo, PassedOn, Leads, StepsOn, HasAsked, said, HasHeadOf, IsBegunAt, HasGiven, HasGivenAll, IsCutBy, EndSays, end_by}
+use Rattle.gp_session_http.proofs.Rows.{with_wire, with_line, moved_line, moved_same, moved_again, moved_by_put, moved_unput, moved_flush, no_parts, says_put, says_same, says_again, told_flushed, leads_from}
+use Rattle.gp_session_http.proofs.Answering.{polled, put_on, put_none, over_hung, over_rank}
 
 -- how the text grows
 
@@ -185,6 +191,138 @@ one_passed u v w chunked n part p some says = record {
 
 pub sixteen_passed : (u v : LiveView) (s : PassingStage) (n : ℕ) → Moved u v → Told v (Passing s) → n ≡ 16 → PassedOn u v s.passed.chunked n → Leads u v 2 (Wait (Passing s))
 sixteen_passed u v s n moved told is p = record { moved = moved; to = (told, passed (subst (PassedOn u v s.passed.chunked) is p)) }
+
+-- a part behind moves in which nothing was said
+pub steps_from : (u v w : LiveView) (chunked : Bool) (st : Step) → Moved u v → SaysMore u.wire v.wire [] → StepsTo v w chunked st → StepsTo u w chunked st
+steps_from u v w chunked (step.Part next) m says s = (
+  record { moved = moved_again u v w m s.0.moved; told = s.0.told; part = s.0.part; some = s.0.some; says = says_again u.wire v.wire w.wire [] (framed_by chunked s.0.part) says s.0.says },
+  s.1,
+)
+steps_from u v w chunked (step.Next next) m says s = leads_from u v w 2 2 next m (omega arith) s
+
+pub steps_live : (v x w : LiveView) (chunked : Bool) (st : Step) → v ≡ x → StepsTo v w chunked st → StepsTo x w chunked st
+steps_live v x w chunked st e s = subst (λ (y : LiveView). StepsTo y w chunked st) e s
+
+pub steps_is : (v w : LiveView) (chunked : Bool) (a b : Step) → a ≡ b → StepsTo v w chunked b → StepsTo v w chunked a
+steps_is v w chunked a b e s = subst (StepsTo v w chunked) (sym e) s
+
+pub steps_at : (v w x : LiveView) (chunked : Bool) (st : Step) → x ≡ w → StepsTo v w chunked st → StepsTo v x chunked st
+steps_at v w x chunked st e s = subst (λ (y : LiveView). StepsTo v y chunked st) (sym e) s
+
+-- the body still goes on
+pub still_reads : (x y : ExchangeView) (old now : DialTells) → rank x.place ≡ 4 → Gives x.place y.place old now NotReady → rank y.place ≡ 4
+still_reads x y old now four g = by_place y.place (omega (arith, four, g.0)) g.1
+  where
+    by_place : (p : Place) → 4 ≤ rank p → Waits p old now → rank p ≡ 4
+    by_place (place.Unbegun request) le w = absurd w
+    by_place (place.Connecting request) le w = absurd (omega (arith, le))
+    by_place (place.Sending sending) le w = absurd (omega (arith, le))
+    by_place (place.Heading heading) le w = absurd (omega (arith, le))
+    by_place (place.Reading reading) le w = refl
+    by_place (place.Over over) le w = absurd w
+
+-- the talk was polled
+module _ (v : LiveView) (l : LineView) (s : PassingStage) (told : Told v (Passing s)) (y : ExchangeView) (moved : MovedLine v.line l) (same : y.asked ≡ s.exchange.asked) (head : head_of y.place ≡ head_of s.exchange.place) where
+  abbrev pub after_poll : PassingStage
+  after_poll = record { passed = s.passed; exchange = y }
+
+  pub came : (part : List ℕ) → (LineRow v.line [] (speaking (said s.exchange told.given)) → LineRow l [] (speaking (said y (told.given ++ part))))
+      → HasAsked (with_line v l) (asked_of s.passed) y (speaking (said y (told.given ++ part))) (passed_text s.passed told.parts None)
+  came part row = polled v l (asked_of s.passed) s.exchange y (speaking (said s.exchange told.given)) (speaking (said y (told.given ++ part))) (passed_text s.passed told.parts None) moved same row (passing_rows v s told)
+
+  pub none_came : (LineRow v.line [] (speaking (said s.exchange told.given)) → LineRow l [] (speaking (said y (told.given ++ []))))
+      → HasAsked (with_line v l) (asked_of s.passed) y (speaking (said y told.given)) (passed_text s.passed told.parts None)
+  none_came row = subst (λ (g : List ℕ). HasAsked (with_line v l) (asked_of s.passed) y (speaking (said y g)) (passed_text s.passed told.parts None)) (append-nil told.given) (came [] row)
+
+  pub is_passing : rank y.place ≡ 4 → IsPassing s.passed y
+  is_passing four = record { reading = four; head = head ∙ told.at.head; on = told.at.on; body = told.at.body }
+
+  pub gave_part : (part : List ℕ) → 0 < length part → rank y.place ≡ 4 → (LineRow v.line [] (speaking (said s.exchange told.given)) → LineRow l [] (speaking (said y (told.given ++ part)))) → HasGiven (with_line v l) after_poll part
+  gave_part part some four row = record { given = told.given; parts = told.parts; cut = told.cut; some = some; rows = came part row; at = is_passing four }
+
+  over_rows : (e : ExchangeLast) → IsOverBy e y.place → (LineRow v.line [] (speaking (said s.exchange told.given)) → LineRow l [] (speaking (said y (told.given ++ []))))
+      → HasAsked (with_line v l) (asked_of s.passed) y (hung (said y told.given)) (passed_text s.passed told.parts None)
+  over_rows e over row = over_hung (with_line v l) (asked_of s.passed) y told.given (passed_text s.passed told.parts None) (over_rank e y.place over) (none_came row)
+
+  pub gave_all : IsOverBy last.End y.place → (LineRow v.line [] (speaking (said s.exchange told.given)) → LineRow l [] (speaking (said y (told.given ++ [])))) → HasGivenAll (with_line v l) after_poll
+  gave_all over row = record {
+    given = told.given;
+    parts = told.parts;
+    cut = told.cut;
+    rows = over_rows last.End over row;
+    over = over;
+    head = head ∙ told.at.head;
+    on = told.at.on;
+    body = told.at.body;
+  }
+
+  pub cut_short : (f : ExchangeFault) → IsOverBy (last.Fault f) y.place → (LineRow v.line [] (speaking (said s.exchange told.given)) → LineRow l [] (speaking (said y (told.given ++ []))))
+      → (t : FinishingStage) → t.passed ≡ s.passed → t.exchange.value ≡ y → t.cause ≡ cause.Unrecovered → Leads v (with_line v l) 2 (Go (Finishing t))
+  cut_short f over row t whose exchange is = record {
+    moved = moved_line v l moved;
+    to = (
+      finishing_told (with_line v l) s.passed y t cause.Unrecovered told.parts told.given told.cut whose exchange is
+      (subst (HasAsked (with_line v l) (asked_of s.passed) y (hung (said y told.given))) (cut_text s.passed told.parts) (over_rows (last.Fault f) over row))
+      (record { head = head ∙ told.at.head; on = told.at.on; ended = (f, over); bare = λ b. (let no : true ≡ false = sym b ∙ told.at.body in let never : ⊥ = cc in absurd never) }),
+      omega arith,
+    );
+  }
+
+  pub goes_on : v.wire.rest ≡ [] → Gives s.exchange.place y.place v.line.dial l.dial NotReady → (LineRow v.line [] (speaking (said s.exchange told.given)) → LineRow l [] (speaking (said y (told.given ++ []))))
+      → Leads v (with_line v l) 2 (Wait (Passing after_poll))
+  goes_on empty g row = passing_waits v l after_poll (moved_line v l moved) empty
+      (passing_told (with_line v l) after_poll told.parts told.given told.cut (none_came row) (is_passing (still_reads s.exchange y v.line.dial l.dial told.at.reading g))) g.1
+
+  pub lost : IsOverBy last.NoMemory y.place → (LineRow v.line [] (speaking (said s.exchange told.given)) → LineRow l [] (speaking (said y (told.given ++ [])))) → (ended : Ended) → ended ≡ record { end = end.NoMemory; why = why.Nothing }
+      → Leads v (with_line v l) 2 (End ended)
+  lost over row ended is = passing_lost (with_line v l) after_poll told.parts told.given (passed_text s.passed told.parts None) [] 2 v (moved_line v l moved) told.cut (over_rows last.NoMemory over row) (sym (append-nil (passed_text s.passed told.parts None))) ended is
+
+-- a part was put, or couldn't be
+module _ (v : LiveView) (w : WireView) (s : PassingStage) (part : List ℕ) (h : HasGiven v s part) (start : w.start ≡ v.wire.start) (link : w.link ≡ v.wire.link) where
+  pub put_step : w.rest ≡ v.wire.rest ++ framed_by s.passed.chunked part → StepsTo v (with_wire v w) s.passed.chunked (step.Part s)
+  put_step rest = (
+    record {
+      moved = moved_by_put v w (framed_by s.passed.chunked part) start link rest;
+      told = passing_told (with_wire v w) s (h.parts ++ part ∷ []) (h.given ++ part) (more_parts h.parts h.given part h.cut h.some)
+          (subst (HasAsked (with_wire v w) (asked_of s.passed) s.exchange (speaking (said s.exchange (h.given ++ part)))) (sym (grows_part s.passed h.parts part))
+          (put_on v w start link (asked_of s.passed) s.exchange (speaking (said s.exchange (h.given ++ part))) (passed_text s.passed h.parts None) h.rows (framed_by s.passed.chunked part) rest))
+          h.at;
+      part = part;
+      some = h.some;
+      says = says_put v.wire w (framed_by s.passed.chunked part) start link rest;
+    },
+    refl,
+  )
+
+  pub unput_step : w.rest ≡ v.wire.rest → (l : LineView) → MovedLine v.line l → (LineRow v.line [] (speaking (said s.exchange (h.given ++ part))) → LineRow l [] (hung (said s.exchange (h.given ++ part))))
+      → (ended : Ended) → ended ≡ record { end = end.NoMemory; why = why.Nothing } → Leads v (with_line (with_wire v w) l) 2 (End ended)
+  unput_step rest l moved row ended is =
+      let x = s.exchange in
+      let text = passed_text s.passed h.parts None in
+      let rows = polled (with_wire v w) l (asked_of s.passed) x x (speaking (said x (h.given ++ part))) (hung (said x (h.given ++ part))) text moved refl row
+          (put_none v w start link (asked_of s.passed) x (speaking (said x (h.given ++ part))) text h.rows rest) in
+      passing_lost (with_line (with_wire v w) l) s (h.parts ++ part ∷ []) (h.given ++ part) text (framed_by s.passed.chunked part) 2 v
+      (moved_again v (with_wire v w) (with_line (with_wire v w) l) (moved_unput v w start link rest) (moved_line (with_wire v w) l moved)) (more_parts h.parts h.given part h.cut h.some) rows (grows_part s.passed h.parts part) ended is
+
+-- the last chunk was put, or couldn't be
+module _ (v : LiveView) (w : WireView) (s : PassingStage) (h : HasGivenAll v s) (start : w.start ≡ v.wire.start) (link : w.link ≡ v.wire.link) where
+  pub ended_whole : w.rest ≡ v.wire.rest ++ last_chunk s.passed.chunked (Some cause.Closed) → (t : FinishingStage) → t.passed ≡ s.passed → t.exchange.value ≡ s.exchange → t.cause ≡ cause.Closed → Leads v (with_wire v w) 2 (Go (Finishing t))
+  ended_whole rest t same exchange is =
+      let more = last_chunk s.passed.chunked (Some cause.Closed) in
+      record {
+        moved = moved_by_put v w more start link rest;
+        to = (
+          finishing_told (with_wire v w) s.passed s.exchange t cause.Closed h.parts h.given h.cut same exchange is
+          (subst (HasAsked (with_wire v w) (asked_of s.passed) s.exchange (hung (said s.exchange h.given))) (sym (grows_end s.passed h.parts cause.Closed))
+          (put_on v w start link (asked_of s.passed) s.exchange (hung (said s.exchange h.given)) (passed_text s.passed h.parts None) h.rows more rest))
+          (record { head = h.head; on = h.on; ended = inl h.over; bare = λ b. (let no : true ≡ false = sym b ∙ h.body in let never : ⊥ = cc in absurd never) }),
+          omega arith,
+        );
+      }
+
+  pub unended : w.rest ≡ v.wire.rest → (ended : Ended) → ended ≡ record { end = end.NoMemory; why = why.Nothing } → Leads v (with_wire v w) 2 (End ended)
+  unended rest ended is = passing_lost (with_wire v w) s h.parts h.given (passed_text s.passed h.parts None) [] 2 v (moved_unput v w start link rest) h.cut
+      (put_none v w start link (asked_of s.passed) s.exchange (hung (said s.exchange h.given)) (passed_text s.passed h.parts None) h.rows rest) (sym (append-nil (passed_text s.passed h.parts None))) ended is
 
 -- how a response ends
 pub says_end : (v : LiveView) (w : WireView) (s : FinishingStage) → Told v (Finishing s) → w.rest ≡ [] → (e : SessionEnd) → e ≡ end_by s.passed.code s.cause → EndSays e (with_wire v w) (Finishing s)

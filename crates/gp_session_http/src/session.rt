@@ -180,11 +180,9 @@ impl<'h, L: Link, D: Dial, C: Clock> HttpSession<'h, L, D, C> {
     pub fn parts(self) -> Option<(L, D, C)>
         ensures { option_map (λ d. record { link = L.tells d.0; dial = D.tells d.1; clock = C.tells d.2 }) result ≡ self.entry.left }
     {
-        let HttpSession { open: _, left } = self;
-        match left {
-            Some(devices) => Some(devices.parts()),
-            None => None,
-        }
+        let HttpSession { open, left } = self;
+        drop(open);
+        left.map(Devices::parts)
     }
 }
 

@@ -1,0 +1,6 @@
+use Rattle.std.proofs.Common.{sym}
+use Rattle.gp_session_http.proofs.Turning.{poll_waits}
+use Rattle.gp_session_http.proofs.session.HttpSessionSession.poll.Goals as goal
+
+pub returns-in-Ok-clause-turned : goal.returns-in-Ok-clause-turned
+returns-in-Ok-clause-turned g c = poll_waits c.args.self.now c.self.inside.«open» c.self.inside.left c.in-Some.«open» c.in-Ok.«open» c.self.view_is (sym c.in-Some.ensures.value) c.self.invariant c.in-Ok.ensures
