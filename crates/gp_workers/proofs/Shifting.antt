@@ -1,5 +1,5 @@
 -- What the workers did, from what each did.
-use Rattle.std.proofs.Common.{◌≡◌, ℕ, zero, suc, ◌+◌, ◌*◌, ◌<◌, ◌≤◌, ◌⊎◌, inl, inr, Bool, true, false, MatchBool, List, [], ◌∷◌, ◌++◌, append_assoc, append-nil, map, take, drop, length, get_or, refl, sym, ap, subst, ◌∙◌, ⊎_elim, arith}
+use Rattle.std.proofs.Common.{◌≡◌, ℕ, zero, suc, ◌+◌, ◌*◌, ◌<◌, ◌≤◌, inl, inr, Bool, true, false, MatchBool, List, [], ◌∷◌, ◌++◌, append_assoc, append-nil, map, take, drop, length, get_or, refl, sym, ap, subst, ◌∙◌, ⊎_elim, arith}
 use Rattle.std.specs.List.{All, sum_by}
 use Rattle.std.proofs.lemmas.List.{append_cancel_left, drop_all, take_all}
 use Rattle.std.proofs.lemmas.List.Elements.{All-nil, All-cons, All-head, All-tail, All-append, All-weaker}
@@ -11,15 +11,15 @@ use Rattle.gp_outside.specs.Listens.{ListenTells}
 use Rattle.gp_turn.specs.Passes.{range, ranges_of, times_in}
 use Rattle.gp_turn.proofs.Ranges.{times-one}
 use Rattle.gp_hub.specs.Passes.{HubView}
-use Rattle.gp_workers.specs.Books.{Books, Gave, books, report_of}
-use Rattle.gp_workers.specs.Claims.{ClaimView, all_parts, below, one_share, times}
+use Rattle.gp_workers.specs.Books.{Gave, books, report_of}
+use Rattle.gp_workers.specs.Claims.{ClaimView, all_parts, below, times}
 use Rattle.gp_workers.specs.Desks.{IsShared, desks_in}
 use Rattle.gp_workers.specs.Hires.{HasServed, IsNew, worker_numbers}
 use Rattle.gp_workers.specs.Makers.{Means, numbers}
 use Rattle.gp_workers.specs.Reports.{hold_report, owned}
 use Rattle.gp_workers.specs.Served.{HasGathered, HasGrown, taken_at, worker_report, workers_in}
-use Rattle.gp_workers.specs.Shifts.{Shift, HasShifted, HaveWorked, HoldsStand, claims_at, sessions_in, sessions_of}
-use Rattle.gp_workers.specs.Works.{Holds, IsJoined, reported_at, reported_in, stands_in}
+use Rattle.gp_workers.specs.Shifts.{Shift, HasShifted, HaveWorked, HoldsStand, claims_at, sessions_in}
+use Rattle.gp_workers.specs.Works.{Holds, IsJoined, reported_in, stands_in}
 use Rattle.gp_workers.specs.declared.desk.Desk.{Desk}
 use Rattle.gp_workers.specs.declared.report.SessionReport.{SessionReport}
 use Rattle.gp_workers.specs.declared.report.WorkerReport.{WorkerReport}
