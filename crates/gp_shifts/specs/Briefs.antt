@@ -18,6 +18,11 @@ module _ {L D C : Type 0} where
   abbrev pub GivesAll : HubView → Finished L D C → Type 0
   GivesAll pass over = (over.outcome.pass ≡ pass) × (over.outcome.holds.items ≡ []) × (over.outcome.published ≡ 0) × (over.outcome.end ≡ Sent 200)
 
+-- a session that began with a pass, and attached no hold
+abbrev pub BeganWith : HubView → Option Rest → Type 0
+BeganWith pass None = ⊥
+BeganWith pass (Some rest) = (rest.pass ≡ pass) × (rest.holds.items ≡ [])
+
 -- what its maker says of it
 abbrev pub Says : {L O : Type 0} → List Entry → ℕ → ℕ → SessionEnd → List HoldReport → L → O → Type 0
 Says seen claim number end holds link others = end ≡ Sent 200

@@ -1,6 +1,6 @@
 //! A session that ends by itself, and what makes it.
-ghost use Rattle.std.specs.Prelude.{◌≡◌, [], None};
-ghost use Rattle.gp_shifts.specs.Briefs.{GivesAll, GivesRest, Says};
+ghost use Rattle.std.specs.Prelude.{◌≡◌, None};
+ghost use Rattle.gp_shifts.specs.Briefs.{BeganWith, GivesRest, Says};
 
 use gp_hub::{Hub, HubPass, Outcome, Polled, Session, SessionEnd, Why};
 use gp_outside::{MemKit, MemLink};
@@ -63,8 +63,7 @@ pub struct Quick<'h> {
 
 impl<'h> Quick<'h> {
     fn brief(&self, pass: HubPass, link: MemLink) -> Brief
-        ensures runs { result.rest ≡ None → ⊥ }
-        ensures gives { (over : _) → GivesRest result.rest over → GivesAll pass over }
+        ensures { BeganWith pass result.rest }
     {
         Brief {
             waits: self.waits,

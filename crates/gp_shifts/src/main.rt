@@ -1,58 +1,76 @@
 //! The runs that workers are tested by, over sessions that end by themselves.
 //!
-//! Each run is a row of `RUNS`, and the stored output what it must write: how many sessions were reported with each claim, how many workers
-//! tell as many sessions as their kits were handed devices, and what went wrong. `PairGate` shows that workers run at the same time: it
-//! holds the session with claim 0 until that with claim 1 has ended. It stands on `gp_workers`, and on the devices in memory of `gp_outside`.
+//! Standard input has the runs, and the stored output what each must write: how many sessions were reported with each claim, how many workers
+//! tell as many sessions as their kits were handed devices, and what went wrong. A line `# TITLE` is copied. Any other line has seven numbers:
+//! the workers, the clients and the publishers that come to each, the limit, how often a listener isn't ready before it fails, how often
+//! `PairGate` looks, and how many polls a session waits for. The gate shows that workers run at the same time: it holds the session with
+//! claim 0 until that with claim 1 has ended. A line `alone WAITS` runs one session as a future. It stands on `gp_workers`, and on the
+//! devices in memory of `gp_outside`.
 #![tactic(auto)]
 
+mod alone;
 mod brief;
 mod run;
 
-use brief::Quick;
-use futures::executor::block_on;
-use gp_hub::Hub;
-use gp_outside::PairGate;
-use gp_workers::{Driven, Maker};
-use run::{Run, kit, link, play};
+use alone::alone;
+use run::{Run, play};
+use std::alloc::{AllocError, AllocGlobal, Global};
 use std::io;
+use std::random::RandomSource;
+use std::sync::Wait;
+use std::thread::Threads;
 
-/// As many times as a listener may have to wait while other workers are slow.
-const LONG: u64 = 1_000_000_000_000;
+/// The number of a word.
+fn number(word: &str) -> u64 {
+    word.parse::<u64>().unwrap_or(0)
+}
 
-/// The runs, each with its title.
-const RUNS: [(&str, Run); 6] = [
-    ("one worker", run(1, 1, 0, 1, LONG, 0, 0)),
-    ("two workers and publishers", run(2, 1, 1, 4, LONG, 0, 3)),
-    ("two workers at the same time", run(2, 1, 0, 2, 10_000_000, 1_000_000_000, 1)),
-    ("a listener that fails", run(1, 1, 0, 3, 2, 0, 5)),
-    ("more connections than claims", run(1, 4, 2, 3, LONG, 0, 2)),
-    ("four workers", run(4, 2, 1, 12, LONG, 0, 1)),
-];
+/// A small number of a word.
+fn small(word: &str) -> u8 {
+    word.parse::<u8>().unwrap_or(0)
+}
 
-const fn run(
-    workers: u8,
-    clients: u8,
-    publishers: u8,
-    limit: u32,
-    idle: u64,
-    turns: u64,
-    waits: u64,
-) -> Run {
-    Run {
-        workers,
-        clients,
-        publishers,
-        limit,
-        idle,
-        turns,
-        waits,
+/// The run of a line, if it is one.
+fn run_of(alloc: Global, line: &str) -> Result<Option<Run>, AllocError> {
+    let words = line.split(' ').collect::<Vec<&str>>(alloc)?;
+    let [workers, clients, publishers, limit, idle, turns, waits] = words.as_slice() else {
+        return Ok(None);
+    };
+    Ok(Some(Run {
+        workers: small(workers),
+        clients: small(clients),
+        publishers: small(publishers),
+        limit: u32::from(small(limit)),
+        idle: number(idle),
+        turns: number(turns),
+        waits: number(waits),
+    }))
+}
+
+/// What a line gives.
+fn given<R: Threads + Wait + Sync + Print + RandomSource + AllocGlobal>(
+    rt: &R,
+    line: &str,
+) -> io::Result<()> {
+    if line.starts_with("# ") {
+        return println!(rt; "{line}");
+    }
+    if let Some(waits) = line.strip_prefix("alone ") {
+        let end = alone(rt, rt.alloc(), number(waits))?;
+        return println!(rt; "{end:?}");
+    }
+    match run_of(rt.alloc(), line)? {
+        Some(run) => {
+            let text = play(rt, rt.alloc(), &run)?;
+            println!(rt; "{text}")
+        }
+        None => println!(rt; "not a run: {line}"),
     }
 }
 
 fn main(rt: HostRuntime) -> io::Result<()> {
-    for (title, run) in RUNS {
-        let text = play(&rt, rt.alloc(), &run)?;
-        println!(rt; "{title}: {text}")?;
+    for line in rt.lines(rt.alloc()) {
+        given(&rt, line?.as_str())?;
     }
     Ok(())
 }

