@@ -1,5 +1,5 @@
 -- A hold that a history attaches further is of a number of a further entry.
-use Rattle.std.proofs.Common.{◌≡◌, ℕ, zero, suc, ◌≤◌, ◌⊎◌, inl, inr, ◌==◌, Bool, true, false, cond, not, List, [], ◌∷◌, ◌++◌, append_assoc, append-nil, map, fold, length, refl, sym, ap, subst, ◌∙◌, ⊎_elim, arith, slice_get, Some, None}
+use Rattle.std.proofs.Common.{◌≡◌, ℕ, zero, suc, ◌≤◌, ◌⊎◌, inl, inr, ◌==◌, Bool, true, false, cond, not, List, [], ◌∷◌, ◌++◌, append_assoc, append-nil, map, fold, length, refl, sym, ap, subst, ◌∙◌, ⊎_elim, arith, slice_get, Some}
 use Rattle.std.specs.List.{All}
 use Rattle.std.proofs.Math.ListN.{length-map}
 use Rattle.std.proofs.lemmas.List.Sums.{fold-append}
@@ -59,17 +59,17 @@ module _ (P : ℕ → Type 0) where
   more_owners [] past all = record { new = []; is = sym (append-nil (owners past.holds)); all = All-nil P }
   more_owners (e ∷ es) past all =
       let rest = more_owners es (after past e) (All-tail (λ (e : Entry). P e.who) e es all) in ⊎_elim
-          (λ (same : owners (after_event past e.who e.event).holds ≡ owners past.holds). record {
-            new = rest.new;
-            is = rest.is ∙ ap (λ (l : List ℕ). l ++ rest.new) same;
-            all = rest.all;
-          })
-          (λ (one : owners (after_event past e.who e.event).holds ≡ owners past.holds ++ e.who ∷ []). record {
-            new = e.who ∷ rest.new;
-            is = rest.is ∙ (ap (λ (l : List ℕ). l ++ rest.new) one ∙ append_assoc (owners past.holds) (e.who ∷ []) rest.new);
-            all = All-cons P e.who rest.new (All-head (λ (e : Entry). P e.who) e es all) rest.all;
-          })
-          (one_owners e.who past e.event)
+      (λ (same : owners (after_event past e.who e.event).holds ≡ owners past.holds). record {
+        new = rest.new;
+        is = rest.is ∙ ap (λ (l : List ℕ). l ++ rest.new) same;
+        all = rest.all;
+      })
+      (λ (one : owners (after_event past e.who e.event).holds ≡ owners past.holds ++ e.who ∷ []). record {
+        new = e.who ∷ rest.new;
+        is = rest.is ∙ (ap (λ (l : List ℕ). l ++ rest.new) one ∙ append_assoc (owners past.holds) (e.who ∷ []) rest.new);
+        all = All-cons P e.who rest.new (All-head (λ (e : Entry). P e.who) e es all) rest.all;
+      })
+      (one_owners e.who past e.event)
 
   owner_at : (hs : List Held) (k : ℕ) (h : Held) → All P (owners hs) → slice_get hs k ≡ Some h → P h.owner
   owner_at [] k h all at = absurd cc

@@ -222,14 +222,14 @@ module _ {K Ln I G L D C : Type 0} (parts : K → KitParts Ln I G L D C) (tells 
       let final_parts = pass.2 in
       let own : All (λ (e : Entry). 0 < stands_in e.who before.number before.spare → sum_by (sessions_in e.who) (shifts_of ws zs all_done) ≡ 1) on.more =
       (λ k d lt has.
-          let n = (get_or on.more k d).who in
-          let other = on.others k d lt in
-          let own = of_range n first in
-          let c = shared.numbers n in
-          let b = in_desks n in
-          let a = all_apart n ws zs all_done in
-          let most = times-one n before.number before.spare in
-          let some = mine k d lt (omega arith) in omega arith) in
+      let n = (get_or on.more k d).who in
+      let other = on.others k d lt in
+      let own = of_range n first in
+      let c = shared.numbers n in
+      let b = in_desks n in
+      let a = all_apart n ws zs all_done in
+      let most = times-one n before.number before.spare in
+      let some = mine k d lt (omega arith) in omega arith) in
       record {
         shifts = shifts_of ws zs all_done;
         next = next;
