@@ -1,10 +1,8 @@
 -- A worker is dismissed: its pass and its claimer are joined.
-use Rattle.std.proofs.Common.{◌≡◌, ℕ, ◌+◌, ◌≤◌, List, [], ◌∷◌, ◌++◌, length, length-append, max, refl, ap, ◌∙◌, arith}
-use Rattle.std.specs.List.{All}
+use Rattle.std.proofs.Common.{◌≡◌, ◌+◌, ◌≤◌, List, [], ◌∷◌, ◌++◌, length, length-append, max, refl, ap, ◌∙◌, arith}
 use Rattle.std.proofs.lemmas.List.Elements.{All-push, All-weaker}
 use Rattle.std.proofs.lemmas.List.Sums.{sum_by_push, sum_by-append}
 use Rattle.gp_turn.specs.Passes.{ranges_of, times_in, with_joined}
-use Rattle.gp_turn.proofs.Ranges.{times-append}
 use Rattle.gp_hub.specs.Passes.{HubView, GoesOnFrom}
 use Rattle.gp_workers.specs.Claims.{ClaimView, hit, one_share, times}
 use Rattle.gp_workers.specs.Served.{HasGathered, HasGrown}

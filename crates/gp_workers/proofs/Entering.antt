@@ -4,7 +4,6 @@ use Rattle.std.proofs.lemmas.Bool.Decides.{nat_tests}
 use Rattle.std.proofs.lemmas.List.Elements.{All-push, All-weaker}
 use Rattle.std.proofs.lemmas.List.Sums.{sum_by_push}
 use Rattle.atomic_table.specs.Seated.{TableId}
-use Rattle.gp_plain.specs.declared.event.Entry.{Entry}
 use Rattle.gp_turn.specs.Passes.{ranges_of, shortened, times_in}
 use Rattle.gp_turn.proofs.Ranges.{times-split}
 use Rattle.gp_turn.proofs.Histories.{continues_same}

@@ -1,12 +1,12 @@
 -- One more desk is cut off.
-use Rattle.std.proofs.Common.{◌≡◌, ℕ, ◌+◌, ◌-◌, ◌<◌, ◌≤◌, ◌^◌, List, [], ◌∷◌, ◌++◌, length, length-append, refl, ap, ◌∙◌, arith}
+use Rattle.std.proofs.Common.{◌≡◌, ◌+◌, ◌-◌, ◌≤◌, List, [], ◌∷◌, ◌++◌, length, length-append, refl, ◌∙◌, arith}
 use Rattle.std.proofs.lemmas.List.Sums.{sum_by_push}
 use Rattle.atomic_table.specs.Seated.{TableId}
 use Rattle.gp_plain.specs.declared.event.Entry.{Entry}
 use Rattle.gp_turn.proofs.Ranges.{times-split}
 use Rattle.gp_hub.specs.Passes.{HubView}
 use Rattle.gp_workers.specs.Claims.{ClaimView, one_share}
-use Rattle.gp_workers.specs.Desks.{IsDesk, IsShared, desks_in}
+use Rattle.gp_workers.specs.Desks.{IsDesk, IsShared}
 use Rattle.gp_workers.specs.Hires.{worker_numbers}
 use Rattle.gp_workers.specs.Works.{stands_in}
 use Rattle.gp_workers.specs.declared.desk.Desk.{Desk}

@@ -7,7 +7,7 @@ use Rattle.gp_plain.specs.declared.event.Entry.{Entry}
 use Rattle.gp_workers.specs.Claims.{one_share}
 use Rattle.gp_workers.specs.Makers.{Means}
 use Rattle.gp_workers.specs.Books.{Books, Gave}
-use Rattle.gp_workers.specs.Works.{HasStopped, Holds, IsJoined, IsOpen, Ranged, Stands, Works, reported_in, running_in, stands_in}
+use Rattle.gp_workers.specs.Works.{HasStopped, Holds, IsJoined, IsOpen, Stands, Works, reported_in, running_in, stands_in}
 use Rattle.gp_workers.proofs.Joining.{of_range}
 use Rattle.gp_workers.specs.Hires.{HasServed, IsNew}
 use Rattle.gp_workers.specs.declared.maker.Finished.{Finished}

@@ -1,5 +1,5 @@
 -- Passes that are joined, and the numbers that sessions were handed.
-use Rattle.std.proofs.Common.{◌≡◌, ℕ, zero, suc, ◌+◌, ◌-◌, ◌<◌, ◌≤◌, ◌⊎◌, inl, inr, List, [], ◌∷◌, ◌++◌, append_assoc, append-nil, length, get_or, sym, refl, ap, subst, ◌∙◌, ⊎_elim, arith}
+use Rattle.std.proofs.Common.{◌≡◌, ℕ, zero, suc, ◌+◌, ◌-◌, ◌<◌, ◌≤◌, ◌⊎◌, inl, inr, List, [], ◌∷◌, ◌++◌, append_assoc, get_or, sym, refl, ap, subst, ◌∙◌, ⊎_elim, arith}
 use Rattle.std.specs.List.{All}
 use Rattle.std.proofs.lemmas.Bool.Decides.{nat_tests}
 use Rattle.std.proofs.lemmas.List.{append_cancel_left}
@@ -7,7 +7,7 @@ use Rattle.std.proofs.lemmas.List.Elements.{All-append, All-weaker}
 use Rattle.gp_plain.specs.declared.event.Entry.{Entry}
 use Rattle.gp_turn.specs.Passes.{range, ranges_of, times_in, with_joined, shortened, split_off}
 use Rattle.gp_turn.proofs.Ranges.{once, times-cons, times-append, times-split}
-use Rattle.gp_turn.proofs.Histories.{continues_same, continues_both, continues_fewer}
+use Rattle.gp_turn.proofs.Histories.{continues_same}
 use Rattle.gp_hub.specs.Passes.{HubView, GoesOnFrom, who_of}
 use Rattle.gp_workers.specs.Books.{Books}
 use Rattle.gp_workers.specs.Works.{IsJoined, Ranged, reported_in, stands_in}

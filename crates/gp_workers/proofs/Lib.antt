@@ -7,5 +7,6 @@ pub mod Hiring
 pub mod Furnishing
 pub mod Dismissing
 pub mod Owning
+pub mod Attaching
 pub mod Shifting
 pub mod Taking

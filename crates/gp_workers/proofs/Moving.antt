@@ -1,5 +1,5 @@
 -- What looks at the doors and at the claims keeps the books of a worker.
-use Rattle.std.proofs.Common.{◌≡◌, ℕ, ◌≤◌, inl, inr, List, [], append-nil, length, sym, ap, ◌∙◌, ⊎_elim, arith}
+use Rattle.std.proofs.Common.{◌≡◌, ℕ, ◌≤◌, inl, inr, List, length, ap, ◌∙◌, ⊎_elim, arith}
 use Rattle.atomic_table.specs.Seated.{TableId}
 use Rattle.gp_hub.specs.Passes.{HubView}
 use Rattle.gp_outside.specs.Counts.{Rose}

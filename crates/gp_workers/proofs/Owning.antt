@@ -10,7 +10,7 @@ use Rattle.gp_plain.specs.declared.event.Event.{Event}
 use Rattle.gp_plain.specs.declared.event.Event.TheVariants.{Attach, Publish, Take, Page, PageFailed, Push, Join, Leave, Detach}
 use Rattle.gp_plain.specs.Follow.{last_items, is_repeat}
 use Rattle.gp_plain.specs.Holds.{Held, begun, taken_from, let_go}
-use Rattle.gp_plain.specs.History.{Past, has_place, changed, served_by, with_item, with_hold, after_event, after, nothing, past_of, held}
+use Rattle.gp_plain.specs.History.{Past, has_place, changed, served_by, with_item, with_hold, after_event, after, nothing, past_of}
 use Rattle.gp_plain.specs.Others.{Share, share_of}
 use Rattle.gp_turn.specs.declared.range.Range.{Range}
 use Rattle.gp_turn.specs.Passes.{is_in, times_in}

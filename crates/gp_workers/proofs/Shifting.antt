@@ -1,5 +1,5 @@
 -- What the workers did, from what each did.
-use Rattle.std.proofs.Common.{◌≡◌, ℕ, zero, suc, ◌+◌, ◌*◌, ◌<◌, ◌≤◌, ◌⊎◌, inl, inr, Bool, true, false, MatchBool, List, [], ◌∷◌, ◌++◌, append_assoc, append-nil, map, take, drop, length, get_or, refl, sym, ap, subst, ◌∙◌, ⊎_elim, arith}
+use Rattle.std.proofs.Common.{◌≡◌, ℕ, zero, suc, ◌+◌, ◌*◌, ◌<◌, ◌≤◌, inl, inr, Bool, true, false, MatchBool, List, [], ◌∷◌, ◌++◌, append_assoc, append-nil, map, take, drop, length, get_or, slice_get, Some, refl, sym, ap, subst, ◌∙◌, ⊎_elim, arith}
 use Rattle.std.specs.List.{All, sum_by}
 use Rattle.std.proofs.lemmas.List.{append_cancel_left, drop_all, take_all}
 use Rattle.std.proofs.lemmas.List.Elements.{All-nil, All-cons, All-head, All-tail, All-append, All-weaker}
@@ -11,21 +11,24 @@ use Rattle.gp_outside.specs.Listens.{ListenTells}
 use Rattle.gp_turn.specs.Passes.{range, ranges_of, times_in}
 use Rattle.gp_turn.proofs.Ranges.{times-one}
 use Rattle.gp_hub.specs.Passes.{HubView}
-use Rattle.gp_workers.specs.Books.{Books, Gave, books, report_of}
-use Rattle.gp_workers.specs.Claims.{ClaimView, all_parts, below, one_share, times}
+use Rattle.gp_workers.specs.Books.{Gave, books, report_of}
+use Rattle.gp_workers.specs.Claims.{ClaimView, all_parts, below, times}
 use Rattle.gp_workers.specs.Desks.{IsShared, desks_in}
 use Rattle.gp_workers.specs.Hires.{HasServed, IsNew, worker_numbers}
 use Rattle.gp_workers.specs.Makers.{Means, numbers}
 use Rattle.gp_workers.specs.Reports.{hold_report, owned}
 use Rattle.gp_workers.specs.Served.{HasGathered, HasGrown, taken_at, worker_report, workers_in}
-use Rattle.gp_workers.specs.Shifts.{Shift, HasShifted, HaveWorked, HoldsStand, claims_at, sessions_in, sessions_of}
-use Rattle.gp_workers.specs.Works.{Holds, IsJoined, reported_at, reported_in, stands_in}
+use Rattle.gp_workers.specs.Shifts.{Shift, HasShifted, HaveWorked, HoldsStand, claims_at, sessions_in}
+use Rattle.gp_workers.specs.Works.{Holds, IsJoined, reported_in, stands_in}
 use Rattle.gp_workers.specs.declared.desk.Desk.{Desk}
 use Rattle.gp_workers.specs.declared.report.SessionReport.{SessionReport}
 use Rattle.gp_workers.specs.declared.report.WorkerReport.{WorkerReport}
 use Rattle.gp_workers.specs.declared.worker.Worker.{Worker}
 use Rattle.gp_workers.proofs.Joining.{none_gone, of_range, some_of}
 use Rattle.gp_workers.proofs.Owning.{owned_later}
+use Rattle.gp_workers.proofs.Attaching.{new_owner}
+use Rattle.std.proofs.Math.ListN.{length-map}
+use Rattle.gp_plain.specs.History.{held}
 
 joined_through : (a b c : HubView) → IsJoined a b → IsJoined b c → IsJoined a c
 joined_through a b c j k =
@@ -205,44 +208,50 @@ module _ {K Ln I G L D C : Type 0} (parts : K → KitParts Ln I G L D C) (tells 
       → before.turn ≡ turn → before.seen ≡ seen
       → IsShared claims desks before first drawn → length desks ≡ length ws → ((n : ℕ) → workers_in n ws ≡ desks_in n desks) → length zs ≡ length ws
       → HaveDone ws zs
-      → (final.number ≡ first.number) × (final.turn ≡ first.turn) × (final.parts ≡ first.parts + worker_numbers * length zs) → HasGrown first final → All (λ (z : Worker K). IsJoined z.pass final) zs
+      → (final.number ≡ first.number) × (final.turn ≡ first.turn) × (final.parts ≡ first.parts + worker_numbers * length zs) × (final.spare ≡ first.spare) → HasGrown first final → All (λ (z : Worker K). IsJoined z.pass final) zs
       → HasGathered drawn gathered zs → gathered.note ≤ next → (gathered.parts ≡ all_parts → (x : ℕ) → times x gathered.taken ≡ below x next)
       → map (λ (w : Worker K). w.kit) ws ≡ kits → back ≡ map (λ (w : Worker K). w.kit) zs → told ≡ map worker_report zs
       → HaveWorked parts tells means limit before final kits back told
-  have_worked before first final desks drawn gathered next ws zs kits back told of_turn has_seen shared desk_count in_desks same_count h pass grown joined g later all are_kits are_back are_told =
+  have_worked before first final desks drawn gathered next ws zs kits back told of_turn has_seen shared desk_count in_desks same_count all_done pass grown joined g later all are_kits are_back are_told =
       let shares = shared.shares in let shared_parts = shared.parts in
       let gathered_parts = g.parts in
       let every : gathered.parts ≡ all_parts = omega arith in
       let on = grown.goes_on in
       let grows : final.seen ≡ seen ++ on.more = on.is ∙ ap (λ (l : List Entry). l ++ on.more) (shared.seen ∙ has_seen) in
-      let mine = all_mine final on.more ws zs h grows joined in
+      let mine = all_mine final on.more ws zs all_done grows joined in
       let final_parts = pass.2 in
+      let own : All (λ (e : Entry). 0 < stands_in e.who before.number before.spare → sum_by (sessions_in e.who) (shifts_of ws zs all_done) ≡ 1) on.more =
+      (λ k d lt has.
+      let n = (get_or on.more k d).who in
+      let other = on.others k d lt in
+      let own = of_range n first in
+      let c = shared.numbers n in
+      let b = in_desks n in
+      let a = all_apart n ws zs all_done in
+      let most = times-one n before.number before.spare in
+      let some = mine k d lt (omega arith) in omega arith) in
       record {
-        shifts = shifts_of ws zs h;
+        shifts = shifts_of ws zs all_done;
         next = next;
-        kits = sym are_kits ∙ sym (befores ws zs h);
-        back = are_back ∙ sym (afters ws zs h);
-        reports = are_told ∙ sym (reports ws zs h);
-        each = subst (λ (t : TableId). All (HasShifted parts tells means t limit next final) (shifts_of ws zs h)) (sym of_turn)
-            (all_shifted final next ws zs h joined (All-weaker (λ (z : Worker K). z.claimer.note ≤ gathered.note) (λ (z : Worker K). z.claimer.note ≤ next) (λ z low. omega arith) zs g.notes));
+        kits = sym are_kits ∙ sym (befores ws zs all_done);
+        back = are_back ∙ sym (afters ws zs all_done);
+        reports = are_told ∙ sym (reports ws zs all_done);
+        each = subst (λ (t : TableId). All (HasShifted parts tells means t limit next final) (shifts_of ws zs all_done)) (sym of_turn)
+            (all_shifted final next ws zs all_done joined (All-weaker (λ (z : Worker K). z.claimer.note ≤ gathered.note) (λ (z : Worker K). z.claimer.note ≤ next) (λ z low. omega arith) zs g.notes));
         claims = λ x lt.
-            let a = all_claims x ws zs h lt in
+            let a = all_claims x ws zs all_done lt in
             let b = g.taken x in
             let none : times x drawn.taken ≡ 0 = ap (times x) shared.taken in
             let c = all every x in omega arith;
-        apart = λ n. let a = all_apart n ws zs h in let b = in_desks n in let c = shared.numbers n in omega arith;
+        apart = λ n. let a = all_apart n ws zs all_done in let b = in_desks n in let c = shared.numbers n in omega arith;
         turn = pass.1 ∙ shared.turn;
         number = pass.0 ∙ shared.number;
         parts_are = omega arith;
         more = on.more;
         grows = on.is ∙ ap (λ (l : List Entry). l ++ on.more) shared.seen;
-        mine = λ k d lt has.
-            let n = (get_or on.more k d).who in
-            let other = on.others k d lt in
-            let own = of_range n first in
-            let c = shared.numbers n in
-            let b = in_desks n in
-            let a = all_apart n ws zs h in
-            let most = times-one n before.number before.spare in
-            let some = mine k d lt (omega arith) in omega arith;
+        spare = (let s = shared.spare in let same = pass.3 in let count : length kits ≡ length ws = sym (ap length are_kits) ∙ length-map ws (λ (w : Worker K). w.kit) in omega arith);
+        mine = own;
+        holds = λ k h further at has.
+            let rest : final.seen ≡ before.seen ++ on.more = on.is ∙ ap (λ (l : List Entry). l ++ on.more) shared.seen in
+            new_owner (λ (n : ℕ). 0 < stands_in n before.number before.spare → sum_by (sessions_in n) (shifts_of ws zs all_done) ≡ 1) before.seen on.more k h own further (subst (λ (l : List Entry). slice_get (held l) k ≡ Some h) rest at) has;
       }

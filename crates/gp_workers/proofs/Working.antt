@@ -11,11 +11,10 @@ use Rattle.gp_hub.specs.Passes.{HubView}
 use Rattle.gp_workers.specs.Claims.{hit}
 use Rattle.gp_workers.specs.Makers.{Means, IsGiven, numbers}
 use Rattle.gp_workers.specs.Books.{Books, Gave, handed_of, report_of, Hands, HasFinished}
-use Rattle.gp_workers.specs.Works.{Holds, IsJoined, Told, Ranged, Works, reported_in, running_at, running_in, stands_in}
-use Rattle.gp_workers.specs.Served.{HasGrown}
+use Rattle.gp_workers.specs.Works.{Holds, IsJoined, Told, Ranged, Works, reported_in, running_in, stands_in}
 use Rattle.gp_workers.proofs.Joining.{grown_mine, joined_gone, joined_grown, joined_later, of_range, ranged_kept, some_of}
-use Rattle.gp_turn.specs.Passes.{range, ranges_of, times_in}
-use Rattle.gp_turn.proofs.Ranges.{times-append, times-cons}
+use Rattle.gp_turn.specs.Passes.{ranges_of, times_in}
+use Rattle.gp_turn.proofs.Ranges.{times-append}
 use Rattle.gp_workers.specs.declared.maker.Finished.{Finished}
 use Rattle.gp_workers.specs.declared.report.SessionReport.{SessionReport}
 use Rattle.gp_workers.specs.declared.worker.Running.{Running}

@@ -1,6 +1,8 @@
 -- What workers did, each in its thread, and what became of the pass that they shared.
-use Rattle.std.specs.Prelude.{ℕ, ◌≡◌, ◌+◌, ◌<◌, ◌≤◌, ◌⊎◌, true, List, ◌++◌, All, length, map, sum_by, option_map}
+use Rattle.std.specs.Prelude.{ℕ, ◌≡◌, ◌+◌, ◌*◌, ◌<◌, ◌≤◌, ◌⊎◌, true, List, ◌++◌, All, length, map, sum_by, slice_get, Some, option_map}
 use Rattle.atomic_table.specs.Seated.{TableId}
+use Rattle.gp_plain.specs.Holds.{Held}
+use Rattle.gp_plain.specs.History.{held}
 use Rattle.gp_plain.specs.declared.event.Entry.{Entry}
 use Rattle.gp_turn.specs.Passes.{range}
 use Rattle.gp_hub.specs.Passes.{HubView}
@@ -10,6 +12,7 @@ use Rattle.gp_outside.specs.Listens.{ListenTells}
 use Rattle.gp_outside.specs.declared.kit.Handed.{Handed}
 use Rattle.gp_workers.specs.Books.{Gave, handed_of, report_of}
 use Rattle.gp_workers.specs.Claims.{below, times}
+use Rattle.gp_workers.specs.Hires.{worker_numbers}
 use Rattle.gp_workers.specs.Makers.{Means, numbers}
 use Rattle.gp_workers.specs.Reports.{hold_report, owned}
 use Rattle.gp_workers.specs.Works.{Holds, IsJoined, reported_at, reported_in, stands_in}
@@ -65,7 +68,7 @@ module _ {K Ln I G L D C : Type 0} where
   -- All workers. The claims that were taken are those below the next one, each once, and each below the limit is that of
   -- one report, but for those that were dropped. The numbers that sessions were handed are the pass's, and apart. The pass
   -- has all its parts again, and what it has seen goes on from before: an entry of a number that was the pass's is of a
-  -- number that one session was handed.
+  -- number that one session was handed, and so is the owner of a hold.
   pub record HaveWorked (parts : K → KitParts Ln I G L D C) (tells : Ln → ListenTells) (means : Means L D C) (limit : ℕ) (before now : HubView) (given taken : List K) (told : List WorkerReport) : Type 0 where
     pub shifts : List (Shift K L D C)
     pub next : ℕ
@@ -78,6 +81,9 @@ module _ {K Ln I G L D C : Type 0} where
     pub turn : now.turn ≡ before.turn
     pub number : now.number ≡ before.number
     pub parts_are : now.parts ≡ before.parts
+    pub spare : now.spare + worker_numbers * length given ≡ before.spare
     pub more : List Entry
     pub grows : now.seen ≡ before.seen ++ more
     pub mine : All (λ (e : Entry). 0 < stands_in e.who before.number before.spare → sum_by (sessions_in e.who) shifts ≡ 1) more
+    -- each further hold that is owned by a number that was the pass's stands in one report
+    pub holds : (k : ℕ) (h : Held) → length (held before.seen) ≤ k → slice_get (held now.seen) k ≡ Some h → 0 < stands_in h.owner before.number before.spare → sum_by (sessions_in h.owner) shifts ≡ 1

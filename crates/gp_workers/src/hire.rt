@@ -99,7 +99,7 @@ pub fn dismiss<K: Kit>(
     requires room { (kits.old.items ≡ []) × (vec_len kits.old ≡ 0) × (length workers ≤ vec_capacity kits.old) × (reports.old.items ≡ []) × (vec_len reports.old ≡ 0) × (length workers ≤ vec_capacity reports.old) }
     ensures kits { kits.new.items ≡ map (λ w. w.kit) workers }
     ensures reports { reports.new.items ≡ map worker_report workers }
-    ensures pass { (pass.new.number ≡ pass.old.number) × (pass.new.turn ≡ pass.old.turn) × (pass.new.parts ≡ pass.old.parts + 2 ^ 44 * length workers) }
+    ensures pass { (pass.new.number ≡ pass.old.number) × (pass.new.turn ≡ pass.old.turn) × (pass.new.parts ≡ pass.old.parts + 2 ^ 44 * length workers) × (pass.new.spare ≡ pass.old.spare) }
     ensures grown { HasGrown pass.old pass.new }
     ensures joined { All (λ w. IsJoined w.pass pass.new) workers }
     ensures claimer { HasGathered claimer.old claimer.new workers }

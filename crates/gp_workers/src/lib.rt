@@ -1,10 +1,11 @@
-//! One worker: it accepts connections, takes a claim for each, drives their sessions over one hub, and keeps its books.
+//! Workers: each accepts connections in a thread of its own, takes a claim for each, drives their sessions over one hub, and keeps its books.
 //!
-//! `specs/Makers.antt` says what a maker of sessions says of what they give, `specs/Claims.antt` what the counter of claims does, and
-//! `specs/Books.antt` what a worker has: its pass, its claims, its reports, and what its kit was handed back. `specs/Visits.antt`, `Doors.antt` and
-//! `Served.antt` say what each step of its life does to the books, and `specs/Works.antt` what stands once it is over. `specs/Desks.antt` and
-//! `Hires.antt` say what workers have before their threads begin, and how they are dismissed. The call that runs them on threads isn't here
-//! yet, so nothing outside the crate makes a worker. It stands on `gp_outside` and `gp_hub`.
+//! `work` runs them. Its contract is `specs/Shifts.antt`: what each worker did, and what became of the claims, the holds and the pass that
+//! they shared. `specs/Makers.antt` says what a maker of sessions says of what they give, and `specs/Claims.antt` what the counter of claims
+//! does. `specs/Books.antt` has what a worker has: its pass, its claims, its reports, and what its kit was handed back; `specs/Visits.antt`
+//! and `Doors.antt` say what each step of its life does to the books, and `specs/Works.antt` what stands at each moment. `specs/Desks.antt`,
+//! `Hires.antt` and `Served.antt` say how workers begin and end. Sessions begin and end inside a thread, and only a `Worker` crosses to it
+//! and back. It stands on `gp_outside` and `gp_hub`.
 #![tactic(auto)]
 
 mod admit;

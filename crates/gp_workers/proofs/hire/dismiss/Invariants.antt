@@ -2,7 +2,7 @@ use Rattle.std.proofs.Common.{◌≡◌, ◌+◌, ◌*◌, ◌≤◌, ◌^◌, �
 use Rattle.std.specs.List.{All}
 use Rattle.std.specs.Vec.{vec_capacity, vec_len}
 use Rattle.gp_workers.specs.Claims.{one_share}
-use Rattle.gp_workers.specs.Served.{HasGathered, HasGrown, worker_report}
+use Rattle.gp_workers.specs.Served.{HasGathered, worker_report}
 use Rattle.gp_workers.specs.Works.{IsJoined}
 use Rattle.gp_workers.specs.declared.worker.Worker.{Worker}
 use Rattle.gp_workers.proofs.Dismissing.{HasKept}

@@ -1,0 +1,8 @@
+use Rattle.gp_shifts.proofs.Giving.{given, runs}
+use Rattle.gp_shifts.proofs.brief.QuickMaker.client.Goals as goal
+
+pub returns-clause-runs : goal.returns-clause-runs
+returns-clause-runs c ended = runs c.brief.result.rest c.args.pass c.brief.ensures ended
+
+pub returns-clause-gives : goal.returns-clause-gives
+returns-clause-gives c over gives = given c.args.self.now.hub.now c.args._claim c.args.pass c.brief.result.rest over c.requires.pass c.brief.ensures gives
