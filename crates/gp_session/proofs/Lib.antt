@@ -1,3 +1,5 @@
+pub mod Calling
 pub mod Publishing
+pub mod Keeping
 pub mod Moving
 pub mod Lining

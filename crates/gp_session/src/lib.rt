@@ -9,11 +9,13 @@
 //! `gp_outside`, `gp_outbox`, `gp_intake` and `gp_hub`, and has no handle.
 #![tactic(auto)]
 
+mod holding;
 mod line;
 mod seat;
 mod watch;
 mod wire;
 
+pub use holding::{Attached, LetGo, Took};
 pub use line::Line;
 pub use seat::{Published, Seat};
 pub use watch::Watch;
