@@ -1,5 +1,5 @@
 -- What an Attach, a Take and a Detach do to a session's pass.
-use Rattle.std.proofs.Common.{◌≡◌, ℕ, ◌+◌, Result, Ok, Err, Option, Some, None, refl, subst, sym, inr, inl, arith}
+use Rattle.std.proofs.Common.{◌≡◌, ℕ, ◌+◌, ◌%◌, Result, Ok, Err, Option, Some, None, refl, subst, sym, inr, inl, arith}
 use Rattle.std.specs.Prelude.{IfOk, IfErr, OnErr, ⊤}
 use Rattle.gp_plain.specs.declared.event.Event.TheVariants.{Attach, Take, Detach}
 use Rattle.gp_plain.specs.declared.event.HoldSpec.{HoldSpec}
@@ -54,7 +54,7 @@ module _ (s t : SeatView) (start : t.start ≡ s.start) (same : IsSame s.pass t.
     attach_says (Ok None) a = record { served = a.0; free = free_served s t start same looks (Attach spec) (reply.Full 4096) a.0.made }
     attach_says (Err (hub.Busy event word)) a = (refl, busy a.1 a.2.2)
     attach_says (Err (hub.Worn event)) a = record { seen = a.1; worn = (a.2.1, a.2.2) }
-    attach_says (Err (hub.NoMemory event)) a = record { seen = a.1; free = inr (inr a.2.2.0) }
+    attach_says (Err (hub.NoMemory event)) a = record { seen = a.1; free = inr (inr a.2.2) }
 
   -- a Take
   module _ (hold now : ℕ) where
@@ -73,7 +73,7 @@ module _ (s t : SeatView) (start : t.start ≡ s.start) (same : IsSame s.pass t.
     take_says (Ok taken) a = record { served = a.0; free = free_served s t start same looks (Take hold now) (reply.Taken taken) a.0.made }
     take_says (Err (hub.Busy event word)) a = busy a.1 a.2.2
     take_says (Err (hub.Worn event)) a = record { seen = a.1; worn = (a.2.1, a.2.2) }
-    take_says (Err (hub.NoMemory event)) a = record { seen = a.1; free = inr (inr a.2.2.0) }
+    take_says (Err (hub.NoMemory event)) a = record { seen = a.1; free = inr (inr a.2.2) }
 
   -- a Detach
   module _ (hold : ℕ) where

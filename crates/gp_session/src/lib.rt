@@ -9,12 +9,14 @@
 //! `gp_outside`, `gp_outbox`, `gp_intake` and `gp_hub`, and has no handle.
 #![tactic(auto)]
 
+mod hearing;
 mod holding;
 mod line;
 mod seat;
 mod watch;
 mod wire;
 
+pub use hearing::Heard;
 pub use holding::{Attached, LetGo, Took};
 pub use line::Line;
 pub use seat::{Published, Seat};
