@@ -11,8 +11,8 @@ use Rattle.gp_hub.specs.Passes.{HubView, IsSame}
 use Rattle.gp_hub.specs.Calls.{HasCause}
 use Rattle.gp_hub.specs.Own.{HasMade, HasAttached, HasTaken, HasDetached, attach_reply}
 use Rattle.gp_session.specs.declared.holding.LetGo.{LetGo}
-use Rattle.gp_session.specs.Seats.{SeatView, MovedSeat, SeatRow, IsServed, IsWorn}
-use Rattle.gp_session.specs.Holding.{MetBusy, MetWorn, MetWant, AttachedTo, TookFrom, LetsGo, HandsBackEvent, WantsNone, SaysGone, attached_by, took_by}
+use Rattle.gp_session.specs.Seats.{SeatView, MovedSeat, SeatRow}
+use Rattle.gp_session.specs.Holding.{MetBusy, AttachedTo, TookFrom, LetsGo, HandsBackEvent, WantsNone, SaysGone, attached_by, took_by}
 use Rattle.gp_session.proofs.Calling.{moved_served, row_served, free_served, moved_unserved, row_unserved}
 
 attach_made : (p q : HubView) (spec : HoldSpec) (hold : Option ℕ) → HasAttached p q spec hold → HasMade p q (Attach spec) (attach_reply hold)

@@ -1,9 +1,8 @@
 -- Reads one after another, all of which are dropped.
-use Rattle.std.proofs.Common.{◌≡◌, ℕ, ◌+◌, ◌≤◌, ◌-◌, ◌<◌, List, [], ◌++◌, length, take, refl, ◌∙◌, arith, length-append, inl, inr}
+use Rattle.std.proofs.Common.{◌≡◌, ℕ, ◌≤◌, ◌-◌, List, [], ◌++◌, length, take, refl, ◌∙◌, arith, length-append, inl, inr}
 use Rattle.std.proofs.lemmas.List.{length-take-le}
 use Rattle.gp_outside.specs.Links.{LinkTells, IsLinkRead}
 use Rattle.gp_outside.specs.declared.link.Got.TheVariants as got
-use Rattle.gp_intake.specs.Polls.{Hears, IsGone}
 use Rattle.gp_intake.proofs.Hearing.{hears_none, hears_more, hears_took, hears_nothing, rose_from, gone_from}
 use Rattle.gp_session.specs.Hearing.{most_heard, HearsOnce, HasHeard, HearsTo}
 use Rattle.gp_session.specs.declared.hearing.Heard.TheVariants.{NotReady, Much, Gone}

@@ -1,9 +1,8 @@
 -- What a publication does to a session's pass.
-use Rattle.std.proofs.Common.{◌≡◌, ℕ, ◌+◌, List, [], ◌∷◌, ◌++◌, Result, Ok, Err, sym, ap, ◌∙◌, subst, arith, append_assoc, append-nil, inl, inr}
+use Rattle.std.proofs.Common.{◌≡◌, ℕ, ◌+◌, [], ◌∷◌, Result, Ok, Err, sym, ap, ◌∙◌, arith, inl, inr}
 use Rattle.std.specs.List.{All}
 use Rattle.std.specs.Prelude.{IfOk, IfErr, OnErr}
-use Rattle.std.proofs.lemmas.List.Elements.{All-append, All-nil, All-weaker, All-push}
-use mathlib.Core.List.{IsPrefix}
+use Rattle.std.proofs.lemmas.List.Elements.{All-nil, All-push}
 use Rattle.gp_plain.specs.declared.event.Entry.{Entry}
 use Rattle.gp_plain.specs.declared.event.Event.TheVariants.{Publish}
 use Rattle.gp_plain.specs.declared.item.Item.{Item}
@@ -11,7 +10,6 @@ use Rattle.gp_plain.specs.declared.reply.Reply.{Reply}
 use Rattle.gp_plain.specs.Others.{MovesShares, shares}
 use Rattle.gp_plain.proofs.ShareLaws.{moves_law_holds}
 use Rattle.gp_plain.proofs.OthersLaw.{owners_law_holds}
-use Rattle.gp_turn.specs.Passes.{range, ranges_of, times_in}
 use Rattle.gp_turn.proofs.Owners.{others_by_number}
 use Rattle.gp_hub.specs.declared.fault.HubFault.{HubFault}
 use Rattle.gp_hub.specs.declared.fault.HubFault.TheVariants as hub

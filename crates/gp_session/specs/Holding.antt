@@ -1,7 +1,6 @@
 -- A session's own holds: what an Attach, a Take and a Detach of its pass come to.
 use Rattle.std.specs.Prelude.{ℕ, ◌≡◌, Result, Ok, Err, Option, Some, None, ⊤}
 use Rattle.gp_plain.specs.declared.event.Event.{Event}
-use Rattle.gp_plain.specs.declared.event.Event.TheVariants.{Attach}
 use Rattle.gp_plain.specs.declared.event.HoldSpec.{HoldSpec}
 use Rattle.gp_plain.specs.declared.reply.Taken.{Taken}
 use Rattle.gp_hub.specs.Own.{HasNewHold, HasNoPlace, HasTaken, HasDetached}

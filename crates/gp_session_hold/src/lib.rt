@@ -1,0 +1,24 @@
+//! The holds of a session: how they are attached, what is counted and reported of them, and how a stream of what they give goes
+//! to a client.
+//!
+//! A [`KeptHold`] is a hold that a session keeps, with what was counted of it. A [`Stream`] takes of such a hold, and puts what it
+//! gives behind the bytes that wait for the client, each piece copied once at the most.
+//!
+//! `specs/Rows.antt` has what a session says of its holds, of the entries that it made and of the bytes that it sent.
+//! `specs/Opens.antt` says what attaching comes to, `specs/Puts.antt` what is put, and `specs/Streams.antt` what a poll of a
+//! stream delivers and why it waits. `specs/Headline.antt` has the law of what a client is sent. It stands on `gp_session`,
+//! `gp_answer` and `gp_hub`, and has no handle.
+#![tactic(auto)]
+
+mod attaching;
+mod hold;
+mod law;
+mod sending;
+mod stream;
+mod unlinked;
+
+pub use attaching::{Opened, attach};
+pub use hold::KeptHold;
+pub use law::headline_law;
+pub use stream::{Stream, Streamed};
+pub use unlinked::without_link;
