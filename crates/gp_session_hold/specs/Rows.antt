@@ -1,5 +1,5 @@
 -- What a session says of its holds, row by row. A session's holds are those that its pass attached, in order.
-use Rattle.std.specs.Prelude.{ℕ, ◌≡◌, ◌×◌, true, false, List, [], ◌∷◌, ◌++◌, map, All, Option, Some, None, ⊤}
+use Rattle.std.specs.Prelude.{ℕ, ◌≡◌, Bool, true, false, List, [], ◌∷◌, ◌++◌, map, All, Option, Some, None, ⊤}
 use Rattle.std.specs.Option.{option_map_or, option_to_list}
 use Rattle.std.specs.List.{flat_map, Contains}
 use Rattle.gp_plain.specs.declared.event.Entry.{Entry}

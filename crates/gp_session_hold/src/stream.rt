@@ -1,5 +1,5 @@
 //! A stream of what a hold gives, to a client.
-ghost use Rattle.std.specs.Prelude.{◌≡◌, ◌++◌, ◌×◌, [], MatchResult, None};
+ghost use Rattle.std.specs.Prelude.{◌≡◌, [], IfOk, MatchResult};
 ghost use Rattle.gp_plain.specs.Others.{Share};
 ghost use Rattle.gp_session.specs.Seats.{SeatView};
 ghost use Rattle.gp_session.specs.Wires.{Sent};
@@ -82,7 +82,7 @@ impl Stream {
         chunked: bool,
         head: Body,
     ) -> Result<Stream, KeptHold>
-        ensures { MatchResult result (λ stream. (stream ≡ record { hold = hold; chunked = chunked; head = head }) × PutsBehind wire.old wire.new head) (λ back. (back ≡ hold) × (wire.new ≡ wire.old)) }
+        ensures begins { MatchResult result (λ stream. (stream ≡ record { hold = hold; chunked = chunked; head = head }) × PutsBehind wire.old wire.new head) (λ back. (back ≡ hold) × (wire.new ≡ wire.old)) }
         ensures streams { (s : SeatView) (share : Share) → IsKept s hold share → IsUnlinked share.spec → share.taken ≡ [] → Sent wire.old [] → IfOk result (λ stream. Streams stream wire.new s) }
     {
         let said = Snapshot::of(&head);
@@ -123,7 +123,7 @@ impl Stream {
         requires { Streams self.old wire.old seat.old }
         ensures { Delivers self.old self.new wire.old wire.new seat.old seat.new now result }
     {
-        for _ in 0..16u64 {
+        for count in 0..16u64 {
             match wire.flush() {
                 Flushed::Empty => {}
                 Flushed::NotReady => return Streamed::Unsent,

@@ -1,0 +1,5 @@
+pub mod Owning
+pub mod Rowing
+pub mod Putting
+pub mod Turning
+pub mod Following
