@@ -1,5 +1,6 @@
 pub mod Owning
 pub mod Rowing
+pub mod Opening
 pub mod Putting
 pub mod Turning
 pub mod Following

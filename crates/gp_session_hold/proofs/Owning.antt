@@ -1,5 +1,6 @@
 -- The list of a session's holds: its numbers rise, and a call of the session's changes the last one alone.
-use Rattle.std.proofs.Common.{◌≡◌, ℕ, zero, suc, ◌+◌, ◌<◌, ◌≤◌, ◌==◌, Bool, true, false, cond, List, [], ◌∷◌, ◌++◌, length, map, refl, sym, ap, ◌∙◌, subst, arith, eq-eqb, slice_get, Option, Some, None, option_map, ⊤}
+use Rattle.std.proofs.Common.{◌≡◌, ℕ, zero, suc, ◌+◌, ◌<◌, ◌≤◌, ◌==◌, Bool, true, false, cond, List, [], ◌∷◌, ◌++◌, length, map, refl, sym, ap, ◌∙◌, subst, arith, eq-eqb, slice_get, Option, Some, None, option_map}
+use Rattle.std.specs.Prelude.{⊤}
 use Rattle.std.specs.List.{Contains}
 use Rattle.std.proofs.lemmas.Bool.{ne_eqb}
 use Rattle.std.proofs.lemmas.List.{map-append}
@@ -16,7 +17,7 @@ AllBelow n [] = ⊤
 AllBelow n (h ∷ hs) = (h.0 < n) × AllBelow n hs
 
 first_number : (k n : ℕ) (x y : Share) (rest : List (ℕ × Share)) → (k, x) ∷ rest ≡ (n, y) ∷ [] → k ≡ n
-first_number k n x y rest e = cc
+first_number k n x y rest e = let h : (k, x) ≡ (n, y) = (cc) in ap (λ (p : ℕ × Share). p.0) h
 
 first_of : (d : ℕ × Share) (k : ℕ) (x : Share) (rest more : List (ℕ × Share)) → (k, x) ∷ rest ≡ d ∷ more → d.0 ≡ k
 first_of d k x rest more e = let h : (k, x) ≡ d = (cc) in ap (λ (p : ℕ × Share). p.0) (sym h)

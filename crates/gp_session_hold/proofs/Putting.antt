@@ -1,5 +1,6 @@
 -- Pieces that are counted and put one after another.
-use Rattle.std.proofs.Common.{◌≡◌, ◌≢◌, ℕ, ◌==◌, Bool, true, false, List, [], ◌∷◌, ◌++◌, length, map, drop, refl, sym, ap, ◌∙◌, subst, append_assoc, append-nil, slice_get, Option, Some, None}
+use Rattle.std.proofs.Common.{◌≡◌, ◌≢◌, ℕ, ◌==◌, Bool, true, false, List, [], ◌∷◌, ◌++◌, length, map, drop, refl, sym, ap, ◌∙◌, subst, append_assoc, append-nil, slice_get, Option, Some, None, arith}
+use Rattle.std.proofs.lemmas.Bool.{eqb-true}
 use Rattle.std.specs.List.{flat_map}
 use Rattle.std.proofs.lemmas.Grind.{flat_map-append}
 use Rattle.std.proofs.lemmas.List.{map-append}
@@ -26,13 +27,12 @@ payload_is (PagePiece from to bytes) = refl
 payload_is (MessagePiece message) = refl
 payload_is (AnswerPiece to part) = refl
 
+abbrev wire_of : LinkTells → LinkTells → List ℕ → WireView
+wire_of start link rest = record { start = start; link = link; rest = rest }
+
 wire_is : (w v : WireView) → w.start ≡ v.start → w.link ≡ v.link → w.rest ≡ v.rest → w ≡ v
 wire_is w v start link rest =
-    ap (λ (l : LinkTells). wire l w.link w.rest) start ∙ ap (λ (l : LinkTells). wire v.start l w.rest) link ∙ ap (λ (r : List ℕ). wire v.start v.link r) rest
-  where
-    wire : LinkTells → LinkTells → List ℕ → WireView
-    abbrev wire
-    wire start link rest = record { start = start; link = link; rest = rest }
+    ap (λ (l : LinkTells). wire_of l w.link w.rest) start ∙ ap (λ (l : LinkTells). wire_of v.start l w.rest) link ∙ ap (λ (r : List ℕ). wire_of v.start v.link r) rest
 
 -- one put after another
 
@@ -117,7 +117,7 @@ some_put v w chunked h k all left room p none = subst (λ (ps : List Piece). Put
 
 no_pieces : (ps : List Piece) → true ≡ (length ps == 0) → ps ≡ []
 no_pieces [] e = refl
-no_pieces (p ∷ ps) e = absurd cc
+no_pieces (p ∷ ps) e = let none : length (p ∷ ps) ≡ 0 = eqb-true (length (p ∷ ps)) 0 (sym e) in absurd (omega (arith, none))
 
 some_pieces : (ps : List Piece) → false ≡ (length ps == 0) → ps ≢ []
 some_pieces [] e = λ none. absurd (let f : false ≡ true = e in (cc))
@@ -125,12 +125,12 @@ some_pieces (p ∷ ps) e = λ none. cc
 
 says_open : (v w : WireView) (chunked : Bool) (taken : Taken) (none room : Bool) → none ≡ (length taken.pieces == 0) → taken.ended ≡ None → PutsAs v w (framed chunked taken.pieces) room → SendsAs v w chunked taken (given_by none room)
 says_open v w chunked taken true true none open_is puts =
-    let no : taken.pieces ≡ [] = no_pieces taken.pieces none in
-    (puts_same v w (subst (λ (ps : List Piece). PutsBehind v w (framed chunked ps)) no puts), no, open_is)
+    let empty : taken.pieces ≡ [] = no_pieces taken.pieces none in
+    (puts_same v w (subst (λ (ps : List Piece). PutsBehind v w (framed chunked ps)) empty puts), empty, open_is)
 says_open v w chunked taken true false none open_is puts =
-    let no : taken.pieces ≡ [] = no_pieces taken.pieces none in
-    let part : PutsPart v w [] = subst (λ (ps : List Piece). PutsPart v w (framed chunked ps)) no puts in
-    (puts_same v w (subst (PutsBehind v w) (no_part part.part part.is_part) part.puts), no, open_is)
+    let empty : taken.pieces ≡ [] = no_pieces taken.pieces none in
+    let part : PutsPart v w [] = subst (λ (ps : List Piece). PutsPart v w (framed chunked ps)) empty puts in
+    (puts_same v w (subst (PutsBehind v w) (no_part part.part part.is_part) part.puts), empty, open_is)
 says_open v w chunked taken false true none open_is puts = (puts, some_pieces taken.pieces none, open_is)
 says_open v w chunked taken false false none open_is puts = (part_more v w (framed chunked taken.pieces) (last_chunk chunked None) puts, open_is)
 

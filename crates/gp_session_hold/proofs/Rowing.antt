@@ -26,7 +26,7 @@ use Rattle.gp_session_hold.proofs.Owning.{below, last_changed, numbers_stay, spe
 -- the row of the holds
 
 pub holds_none : (s : SeatView) → HasNoHolds s → HoldsRow s [] none
-holds_none s no = record { done = []; reported = refl; released = All-nil IsReleased; stands = no }
+holds_none s empty = record { done = []; reported = refl; released = All-nil IsReleased; stands = empty }
 
 module _ (s t : SeatView) (number : t.pass.number ≡ s.pass.number) where
   by_number : (holds : List (ℕ × Share)) → shares s.pass.number t.pass.seen ≡ holds → holds_of t ≡ holds
@@ -137,7 +137,7 @@ module _ (s t : SeatView) (number : t.pass.number ≡ s.pass.number) where
 
   -- a Take
   module _ (hold next : KeptView) (now : ℕ) (taken : Taken) (took : HasTaken s.pass t.pass hold.number now taken) where
-    change : Share → Share
+    abbrev pub change : Share → Share
     change share = share_with share taken
 
     took_holds : holds_of t ≡ with_share hold.number change (holds_of s)

@@ -48,18 +48,18 @@ no_chunk false = refl
 
 -- a hold without a link asks for nothing while it goes on
 asks_nothing : (spec : HoldSpec) (taken : Taken) → IsUnlinked spec → RecoverFits spec taken → taken.ended ≡ None → taken.recover ≡ None
-asks_nothing (StreamSpec opening channel prev link) taken no fits open_is = by_recover taken.recover refl
+asks_nothing (StreamSpec opening channel prev link) taken off fits open_is = by_recover taken.recover refl
   where
     by_recover : (r : Option (List ℕ)) → taken.recover ≡ r → r ≡ None
     by_recover None e = refl
-    by_recover (Some at) e = absurd (let f : link ≡ true = (fits (ap is_some e)).0 in let g : false ≡ true = sym no ∙ f in (cc))
-asks_nothing (Plain opening channels) taken no fits open_is = fits
-asks_nothing (Response channels prev deadline again) taken no fits open_is = by_recover taken.recover (fits ∙ ap is_retry open_is)
+    by_recover (Some at) e = absurd (let f : link ≡ true = (fits (ap is_some e)).0 in let g : false ≡ true = sym off ∙ f in (cc))
+asks_nothing (Plain opening channels) taken off fits open_is = fits
+asks_nothing (Response channels prev deadline again) taken off fits open_is = by_recover taken.recover (fits ∙ ap is_retry open_is)
   where
     by_recover : (r : Option (List ℕ)) → is_some r ≡ false → r ≡ None
     by_recover None e = refl
     by_recover (Some at) e = absurd (let f : true ≡ false = e in (cc))
-asks_nothing Socket taken no fits open_is = fits
+asks_nothing Socket taken off fits open_is = fits
 
 -- a poll that begins
 pub delivering_none : (v : StreamView) (w : WireView) (s : SeatView) (now : ℕ) → Streams v w s → Delivering v v w w s s now 0
