@@ -86,7 +86,16 @@ module _ (v u : StreamView) (w x : WireView) (s t : SeatView) (now count : ℕ) 
   module _ (y : WireView) (answer : Flushed) (f : Flushes x y answer) where
     pub flushed_on : Delivering v u w y s t now count
     flushed_on = record {
-      goes = record d.goes { wire = moved_wire_again w x y d.goes.wire (moved_flushed x y answer f) };
+      goes = record {
+        number = d.goes.number;
+        chunked = d.goes.chunked;
+        head = d.goes.head;
+        wire = moved_wire_again w x y d.goes.wire (moved_flushed x y answer f);
+        seat = d.goes.seat;
+        row = d.goes.row;
+        entries = d.goes.entries;
+        attaches = d.goes.attaches;
+      };
       holds = d.holds;
       free = d.free;
       streams = record {
@@ -274,3 +283,35 @@ module _ (v u : StreamView) (w x : WireView) (s t : SeatView) (now count : ℕ) 
     pub unput : (told : Option EndCause) → PutsPart x y (framed u.chunked taken.pieces ++ last_chunk u.chunked told) → taken.ended ≡ told → IsServed a → Delivers v u' w y s a now (streamed.Unput told)
     unput None p is free = record { goes = goes_served (wire_moved p.part p.puts); holds = holds_open is; serves = λ _. free; says = stopped None p is }
     unput (Some cause) p is free = record { goes = goes_served (wire_moved p.part p.puts); holds = holds_ended cause is; serves = λ _. free; says = stopped (Some cause) p is }
+
+-- a turn behind a flush that sent all that waited
+module _ (v u : StreamView) (w x : WireView) (s t : SeatView) (now count : ℕ) (d : Delivering v u w x s t now count) (y : WireView) (f : Flushes x y flushed.Empty) (k : StreamView) (z : WireView) (a : SeatView) where
+  pub empty_on : Delivering v u w y s t now count
+  empty_on = flushed_on v u w x s t now count d y flushed.Empty f
+
+  pub turned_pieces : Turns u k y z t a now (turned.Gave given.Pieces) → Delivering v k w z s a now (count + 1)
+  turned_pieces r = gave v u w y s t now count empty_on k z a r.chunked r.head r.seat r.row r.says.taken r.says.took r.says.sends.counts r.says.sends.says.0 r.says.sends.says.1 r.says.sends.says.2 r.says.free
+
+  pub turned_nothing : Turns u k y z t a now (turned.Gave given.Nothing) → Delivers v k w z s a now streamed.Idle
+  turned_nothing r = idle v u w y s t now count empty_on k z a r.chunked r.head r.seat r.row r.says.taken r.says.took r.says.sends.counts f.cause.0 r.says.sends.says.0 r.says.sends.says.1 r.says.sends.says.2 r.says.free
+
+  pub turned_end : (cause : EndCause) → Turns u k y z t a now (turned.Gave (given.End cause)) → Delivers v k w z s a now (streamed.Ended cause)
+  turned_end cause r = ended v u w y s t now count empty_on k z a r.chunked r.head r.seat r.row r.says.taken r.says.took r.says.sends.counts cause r.says.sends.says.0 r.says.sends.says.1 r.says.free
+
+  pub turned_unput : (told : Option EndCause) → Turns u k y z t a now (turned.Gave (given.Unput told)) → Delivers v k w z s a now (streamed.Unput told)
+  turned_unput told r = unput v u w y s t now count empty_on k z a r.chunked r.head r.seat r.row r.says.taken r.says.took r.says.sends.counts told r.says.sends.says.0 r.says.sends.says.1 r.says.free
+
+  pub turned_busy : Turns u k y z t a now turned.Busy → Delivers v k w z s a now streamed.Busy
+  turned_busy r =
+      subst (λ (l : StreamView). Delivers v l w z s a now streamed.Busy) (sym r.says.1) (subst (λ (b : WireView). Delivers v u w b s a now streamed.Busy) (sym r.says.2)
+      (busy v u w y s t now count empty_on a r.seat r.row r.says.0.seen r.says.0.busy r.says.0.free))
+
+  pub turned_worn : Turns u k y z t a now turned.Worn → Delivers v k w z s a now streamed.Worn
+  turned_worn r =
+      subst (λ (l : StreamView). Delivers v l w z s a now streamed.Worn) (sym r.says.1) (subst (λ (b : WireView). Delivers v u w b s a now streamed.Worn) (sym r.says.2)
+      (worn v u w y s t now count empty_on a r.seat r.row r.says.0.seen r.says.0.worn))
+
+  pub turned_wanting : Turns u k y z t a now turned.NoMemory → Delivers v k w z s a now streamed.NoMemory
+  turned_wanting r =
+      subst (λ (l : StreamView). Delivers v l w z s a now streamed.NoMemory) (sym r.says.1) (subst (λ (b : WireView). Delivers v u w b s a now streamed.NoMemory) (sym r.says.2)
+      (wanting v u w y s t now count empty_on a r.seat r.row r.says.0.seen r.says.0.free))
