@@ -4,6 +4,7 @@ use Rattle.std.specs.List.{flat_map}
 use Rattle.std.proofs.lemmas.List.{map-append}
 use mathlib.Core.List.{IsPrefix}
 use Rattle.gp_outside.specs.Counts.{Rose}
+use Rattle.gp_outside.specs.Links.{LinkTells}
 use Rattle.gp_outbox.specs.declared.outbox.Flushed.{Flushed}
 use Rattle.gp_outbox.specs.declared.outbox.Flushed.TheVariants as flushed
 use Rattle.gp_plain.specs.Holds.{terms_of, is_retry}
@@ -69,6 +70,8 @@ delivering_none v w s now streams = record {
     chunked = refl;
     head = refl;
     wire = moved_wire_same w;
+    received = refl;
+    ends = refl;
     seat = moved_seat_same s;
     row = λ row. row;
     entries = λ row. row;
@@ -76,6 +79,7 @@ delivering_none v w s now streams = record {
   };
   holds = λ reports row. row;
   free = λ free. free;
+  sound = refl;
   streams = streams;
   gave = begins;
 }
@@ -84,42 +88,59 @@ module _ (v u : StreamView) (w x : WireView) (s t : SeatView) (now count : ℕ) 
 
   -- a flush
   module _ (y : WireView) (answer : Flushed) (f : Flushes x y answer) where
-    pub flushed_on : Delivering v u w y s t now count
-    flushed_on = record {
-      goes = record {
-        number = d.goes.number;
-        chunked = d.goes.chunked;
-        head = d.goes.head;
-        wire = moved_wire_again w x y d.goes.wire (moved_flushed x y answer f);
-        seat = d.goes.seat;
-        row = d.goes.row;
-        entries = d.goes.entries;
-        attaches = d.goes.attaches;
-      };
+    flushed_goes : Goes v u w y s t
+    flushed_goes = record {
+      number = d.goes.number;
+      chunked = d.goes.chunked;
+      head = d.goes.head;
+      wire = moved_wire_again w x y d.goes.wire (moved_flushed x y answer f);
+      received = f.passed.received ∙ d.goes.received;
+      ends = f.passed.ends ∙ d.goes.ends;
+      seat = d.goes.seat;
+      row = d.goes.row;
+      entries = d.goes.entries;
+      attaches = d.goes.attaches;
+    }
+
+    flushed_streams : Streams u y t
+    flushed_streams = record {
+      share = d.streams.share;
+      is = d.streams.is;
+      unlinked = d.streams.unlinked;
+      bytes = sent_flushed x y (stream_text u.chunked u.head d.streams.share.taken None) answer d.streams.bytes f;
+    }
+
+    pub flushed_on : y.link.faults ≡ x.link.faults → Delivering v u w y s t now count
+    flushed_on same = record {
+      goes = flushed_goes;
       holds = d.holds;
       free = d.free;
-      streams = record {
-        share = d.streams.share;
-        is = d.streams.is;
-        unlinked = d.streams.unlinked;
-        bytes = sent_flushed x y (stream_text u.chunked u.head d.streams.share.taken None) answer d.streams.bytes f;
-      };
+      sound = same ∙ d.sound;
+      streams = flushed_streams;
       gave = d.gave;
     }
 
   pub unsent : (y : WireView) → Flushes x y flushed.NotReady → Delivers v u w y s t now streamed.Unsent
-  unsent y f =
-      let e : Delivering v u w y s t now count = flushed_on y flushed.NotReady f in
-      record { goes = e.goes; holds = e.holds; serves = e.free; says = (e.streams, f.cause.0, write_waited_from w x y d.goes.wire f.cause.1) }
+  unsent y f = record {
+    goes = flushed_goes y flushed.NotReady f;
+    holds = d.holds;
+    serves = d.free;
+    sound = f.cause.2 ∙ d.sound;
+    says = (flushed_streams y flushed.NotReady f, f.cause.0, write_waited_from w x y d.goes.wire f.cause.1);
+  }
 
   pub gone : (y : WireView) → Flushes x y flushed.Failed → Delivers v u w y s t now streamed.Gone
-  gone y f =
-      let e : Delivering v u w y s t now count = flushed_on y flushed.Failed f in
-      record { goes = e.goes; holds = e.holds; serves = e.free; says = (e.streams, rose_from w.link.faults x.link.faults y.link.faults d.goes.wire.later.faults f.cause.1) }
+  gone y f = record {
+    goes = flushed_goes y flushed.Failed f;
+    holds = d.holds;
+    serves = d.free;
+    sound = rose_from w.link.faults x.link.faults y.link.faults d.goes.wire.later.faults f.cause.1;
+    says = flushed_streams y flushed.Failed f;
+  }
 
   -- all 16 turns gave pieces
   pub sixteen : count ≡ 16 → Delivers v u w x s t now streamed.Sixteen
-  sixteen all = record { goes = d.goes; holds = d.holds; serves = d.free; says = (d.streams, subst (λ (n : ℕ). Gives u.hold.number now s n t) all (subst (λ (n : ℕ). Gives n now s count t) (sym d.goes.number) d.gave)) }
+  sixteen all = record { goes = d.goes; holds = d.holds; serves = d.free; sound = d.sound; says = (d.streams, subst (λ (n : ℕ). Gives u.hold.number now s n t) all (subst (λ (n : ℕ). Gives n now s count t) (sym d.goes.number) d.gave)) }
 
   -- a turn that wasn't served
   module _ (a : SeatView) (moved : MovedSeat t a) (row : SeatRow t → SeatRow a) (seen : a.pass.seen ≡ t.pass.seen) where
@@ -129,6 +150,8 @@ module _ (v u : StreamView) (w x : WireView) (s t : SeatView) (now count : ℕ) 
       chunked = d.goes.chunked;
       head = d.goes.head;
       wire = d.goes.wire;
+      received = d.goes.received;
+      ends = d.goes.ends;
       seat = moved_seat_again s t a d.goes.seat moved;
       row = λ r. row (d.goes.row r);
       entries = λ r. entries_same t a moved.same.number seen (d.goes.entries r);
@@ -147,13 +170,13 @@ module _ (v u : StreamView) (w x : WireView) (s t : SeatView) (now count : ℕ) 
     }
 
     pub busy : Busied t a → IsServed a → Delivers v u w x s a now streamed.Busy
-    busy b free = record { goes = goes_unserved; holds = holds_unserved; serves = λ _. free; says = (streams_unserved, busied_from s t a d.goes.seat b) }
+    busy b free = record { goes = goes_unserved; holds = holds_unserved; serves = λ _. free; sound = d.sound; says = (streams_unserved, busied_from s t a d.goes.seat b) }
 
     pub worn : IsWorn a → Delivers v u w x s a now streamed.Worn
-    worn b = record { goes = goes_unserved; holds = holds_unserved; serves = b; says = (streams_unserved, b) }
+    worn b = record { goes = goes_unserved; holds = holds_unserved; serves = b; sound = d.sound; says = (streams_unserved, b) }
 
     pub wanting : IsServed a → Delivers v u w x s a now streamed.NoMemory
-    wanting free = record { goes = goes_unserved; holds = holds_unserved; serves = λ _. free; says = streams_unserved }
+    wanting free = record { goes = goes_unserved; holds = holds_unserved; serves = λ _. free; sound = d.sound; says = streams_unserved }
 
   -- a turn that was served
   module _ (u' : StreamView) (y : WireView) (a : SeatView) (chunked : u'.chunked ≡ u.chunked) (head : u'.head ≡ u.head) (moved : MovedSeat t a) (row : SeatRow t → SeatRow a) (taken : Taken)
@@ -161,20 +184,23 @@ module _ (v u : StreamView) (w x : WireView) (s t : SeatView) (now count : ℕ) 
     fits : TakenFits d.streams.share.spec taken
     fits = took.fits d.streams.share d.streams.is.there
 
-    goes_served : MovedWire x y → Goes v u' w y s a
-    goes_served wire = record {
+    -- puts change nothing of the link
+    goes_served : (bytes : List ℕ) → PutsBehind x y bytes → Goes v u' w y s a
+    goes_served bytes p = record {
       number = counts.number ∙ d.goes.number;
       chunked = chunked ∙ d.goes.chunked;
       head = head ∙ d.goes.head;
-      wire = moved_wire_again w x y d.goes.wire wire;
+      wire = moved_wire_again w x y d.goes.wire (moved_put x y p.start p.link);
+      received = ap (λ (l : LinkTells). l.received) p.link ∙ d.goes.received;
+      ends = ap (λ (l : LinkTells). l.ends) p.link ∙ d.goes.ends;
       seat = moved_seat_again s t a d.goes.seat moved;
       row = λ r. row (d.goes.row r);
       entries = λ r. entries_taken t a moved.same.number u.hold u'.hold now taken took d.streams.share d.streams.is (d.goes.entries r);
       attaches = λ specs refused r. attaches_taken t a moved.same.number u.hold u'.hold now taken took specs refused (d.goes.attaches specs refused r);
     }
 
-    wire_moved : (bytes : List ℕ) → PutsBehind x y bytes → MovedWire x y
-    wire_moved bytes p = moved_put x y p.start p.link
+    sound_now : (bytes : List ℕ) → PutsBehind x y bytes → y.link.faults ≡ w.link.faults
+    sound_now bytes p = ap (λ (l : LinkTells). l.faults) p.link ∙ d.sound
 
     holds_open : taken.ended ≡ None → (reports : List HoldReport) → HoldsRow s reports (kept v.hold) → HoldsRow a reports (kept u'.hold)
     holds_open open_is reports r = holds_taken t a moved.same.number u.hold u'.hold now taken took reports counts open_is (d.holds reports r)
@@ -214,7 +240,7 @@ module _ (v u : StreamView) (w x : WireView) (s t : SeatView) (now count : ℕ) 
 
     pub gave : PutsBehind x y (framed u.chunked taken.pieces) → taken.pieces ≢ [] → taken.ended ≡ None → IsServed a → Delivering v u' w y s a now (count + 1)
     gave p some open_is free = record {
-      goes = goes_served (wire_moved (framed u.chunked taken.pieces) p);
+      goes = goes_served (framed u.chunked taken.pieces) p; sound = sound_now (framed u.chunked taken.pieces) p;
       holds = holds_open open_is;
       free = λ _. free;
       streams = streams_now p open_is;
@@ -232,7 +258,7 @@ module _ (v u : StreamView) (w x : WireView) (s t : SeatView) (now count : ℕ) 
     idle empty same none open_is free =
         let p : PutsBehind x y (framed u.chunked taken.pieces) = none_put same none in
         record {
-          goes = goes_served (wire_moved (framed u.chunked taken.pieces) p);
+          goes = goes_served (framed u.chunked taken.pieces) p; sound = sound_now (framed u.chunked taken.pieces) p;
           holds = holds_open open_is;
           serves = λ _. free;
           says = (
@@ -252,7 +278,7 @@ module _ (v u : StreamView) (w x : WireView) (s t : SeatView) (now count : ℕ) 
 
     pub ended : (cause : EndCause) → PutsBehind x y (framed u.chunked taken.pieces ++ last_chunk u.chunked (Some cause)) → taken.ended ≡ Some cause → IsServed a → Delivers v u' w y s a now (streamed.Ended cause)
     ended cause p told free = record {
-      goes = goes_served (wire_moved (framed u.chunked taken.pieces ++ last_chunk u.chunked (Some cause)) p);
+      goes = goes_served (framed u.chunked taken.pieces ++ last_chunk u.chunked (Some cause)) p; sound = sound_now (framed u.chunked taken.pieces ++ last_chunk u.chunked (Some cause)) p;
       holds = holds_ended cause told;
       serves = λ _. free;
       says = record {
@@ -281,13 +307,13 @@ module _ (v u : StreamView) (w x : WireView) (s t : SeatView) (now count : ℕ) 
     }
 
     pub unput : (told : Option EndCause) → PutsPart x y (framed u.chunked taken.pieces ++ last_chunk u.chunked told) → taken.ended ≡ told → IsServed a → Delivers v u' w y s a now (streamed.Unput told)
-    unput None p is free = record { goes = goes_served (wire_moved p.part p.puts); holds = holds_open is; serves = λ _. free; says = stopped None p is }
-    unput (Some cause) p is free = record { goes = goes_served (wire_moved p.part p.puts); holds = holds_ended cause is; serves = λ _. free; says = stopped (Some cause) p is }
+    unput None p is free = record { goes = goes_served p.part p.puts; sound = sound_now p.part p.puts; holds = holds_open is; serves = λ _. free; says = stopped None p is }
+    unput (Some cause) p is free = record { goes = goes_served p.part p.puts; sound = sound_now p.part p.puts; holds = holds_ended cause is; serves = λ _. free; says = stopped (Some cause) p is }
 
 -- a turn behind a flush that sent all that waited
 module _ (v u : StreamView) (w x : WireView) (s t : SeatView) (now count : ℕ) (d : Delivering v u w x s t now count) (y : WireView) (f : Flushes x y flushed.Empty) (k : StreamView) (z : WireView) (a : SeatView) where
   pub empty_on : Delivering v u w y s t now count
-  empty_on = flushed_on v u w x s t now count d y flushed.Empty f
+  empty_on = flushed_on v u w x s t now count d y flushed.Empty f f.cause.1
 
   pub turned_pieces : Turns u k y z t a now (turned.Gave given.Pieces) → Delivering v k w z s a now (count + 1)
   turned_pieces r = gave v u w y s t now count empty_on k z a r.chunked r.head r.seat r.row r.says.taken r.says.took r.says.sends.counts r.says.sends.says.0 r.says.sends.says.1 r.says.sends.says.2 r.says.free

@@ -91,7 +91,7 @@ StreamedAs v w x s t now streamed.Unsent = Streams v x t × (x.rest ≢ []) × W
 StreamedAs v w x s t now streamed.Sixteen = Streams v x t × Gives v.hold.number now s 16 t
 StreamedAs v w x s t now streamed.Busy = Streams v x t × Busied s t
 StreamedAs v w x s t now (streamed.Ended cause) = Finished v x t cause
-StreamedAs v w x s t now streamed.Gone = Streams v x t × Rose w.link.faults x.link.faults
+StreamedAs v w x s t now streamed.Gone = Streams v x t
 StreamedAs v w x s t now streamed.Worn = Streams v x t × IsWorn t
 StreamedAs v w x s t now streamed.NoMemory = Streams v x t
 StreamedAs v w x s t now (streamed.Unput told) = Stopped v x t told
@@ -108,12 +108,26 @@ ServesAs s t streamed.Worn = IsWorn t
 ServesAs s t streamed.NoMemory = IsServed s → IsServed t
 ServesAs s t (streamed.Unput told) = IsServed s → IsServed t
 
+-- the link has no new fault, but where it failed
+abbrev pub SoundAs : WireView → WireView → Streamed → Type 0
+SoundAs w x streamed.Idle = x.link.faults ≡ w.link.faults
+SoundAs w x streamed.Unsent = x.link.faults ≡ w.link.faults
+SoundAs w x streamed.Sixteen = x.link.faults ≡ w.link.faults
+SoundAs w x streamed.Busy = x.link.faults ≡ w.link.faults
+SoundAs w x (streamed.Ended cause) = x.link.faults ≡ w.link.faults
+SoundAs w x streamed.Gone = Rose w.link.faults x.link.faults
+SoundAs w x streamed.Worn = x.link.faults ≡ w.link.faults
+SoundAs w x streamed.NoMemory = x.link.faults ≡ w.link.faults
+SoundAs w x (streamed.Unput told) = x.link.faults ≡ w.link.faults
+
 -- what a poll of a stream keeps, whatever it answers
 pub record Goes (v u : StreamView) (w x : WireView) (s t : SeatView) : Type 0 where
   pub number : u.hold.number ≡ v.hold.number
   pub chunked : u.chunked ≡ v.chunked
   pub head : u.head ≡ v.head
   pub wire : MovedWire w x
+  pub received : x.link.received ≡ w.link.received
+  pub ends : x.link.ends ≡ w.link.ends
   pub seat : MovedSeat s t
   pub row : SeatRow s → SeatRow t
   pub entries : EntriesRow s → EntriesRow t
@@ -123,6 +137,7 @@ pub record Delivers (v u : StreamView) (w x : WireView) (s t : SeatView) (now : 
   pub goes : Goes v u w x s t
   pub holds : (reports : List HoldReport) → HoldsRow s reports (kept v.hold) → HoldsRow t reports (last_of u.hold answer)
   pub serves : ServesAs s t answer
+  pub sound : SoundAs w x answer
   pub says : StreamedAs u w x s t now answer
 
 -- one Take, and what became of it
@@ -150,5 +165,6 @@ pub record Delivering (v u : StreamView) (w x : WireView) (s t : SeatView) (now 
   pub goes : Goes v u w x s t
   pub holds : (reports : List HoldReport) → HoldsRow s reports (kept v.hold) → HoldsRow t reports (kept u.hold)
   pub free : IsServed s → IsServed t
+  pub sound : x.link.faults ≡ w.link.faults
   pub streams : Streams u x t
   pub gave : Gives v.hold.number now s count t
