@@ -17,9 +17,11 @@ use Rattle.gp_plain.proofs.EndLaws.{told_law_holds}
 use Rattle.gp_answer.specs.Frames.{frame, framed_by, last_chunk}
 use Rattle.gp_answer.proofs.Frames.{frame_law_holds}
 use Rattle.gp_session.specs.Seats.{SeatView}
-use Rattle.gp_session.specs.Wires.{WireView, Sent, BytesRow, at_most}
-use Rattle.gp_session_hold.specs.Rows.{share_of_hold, taken_at, told_at, stream_text}
-use Rattle.gp_session_hold.specs.Headline.{FollowsSent, HeadlineLaw}
+use Rattle.gp_session.specs.Wires.{WireView, Sent, BytesRow, at_most, exactly}
+use Rattle.gp_outside.specs.Counts.{grown}
+use Rattle.gp_session_hold.specs.Rows.{KeptView, IsKept, IsOver, share_of_hold, taken_at, told_at, stream_text, StreamRow}
+use Rattle.gp_session_hold.specs.Streams.{StreamView, Streams, Finished, Stopped, IsStopped}
+use Rattle.gp_session_hold.specs.Headline.{FollowsSent, FollowsWhole, HeadlineLaw, WholeLaw, StreamLaw}
 
 abbrev joined : List (List ℕ) → List ℕ
 joined parts = flat_map (λ (part : List ℕ). part) parts
@@ -82,3 +84,53 @@ follows w s number chunked head b chain h there c =
 
 pub headline_law_holds : HeadlineLaw
 headline_law_holds = follows
+
+whole_by : (w : WireView) (s : SeatView) (number : ℕ) (chunked : Bool) (head : List ℕ) (cause : EndCause) → BytesRow w (exactly (stream_text chunked head (taken_at s number) (told_at s number)))
+    → w.rest ≡ [] → told_at s number ≡ Some cause → (chain : Chain) (h : Held) → slice_get (held s.pass.seen) number ≡ Some h → (c : Covers chain s.pass.seen number h) → FollowsWhole w chunked head cause chain c.opening c.start
+whole_by w s number chunked head cause row empty told chain h there c =
+    let whole : FollowsLog chain c.opening c.start (log h) (position h) (ended h) = chain_law_holds s.pass.seen chain number h there c in
+    let end : HasToldEnd h = told_law_holds s.pass.seen number h there in
+    let none : pending h ≡ [] = (end.told cause (sym (told_is s number h there) ∙ told)).0 in
+    let all : stream_text chunked head (taken_at s number) (told_at s number) ≡ frame chunked head (map piece_bytes h.taken) (Some cause) =
+    ap (λ ps. stream_text chunked head ps (told_at s number)) (taken_is s number h there) ∙ ap (λ (o : Option EndCause). stream_text chunked head h.taken o) told in
+    let sent : row.sent ≡ frame chunked head (map piece_bytes h.taken) (Some cause) = sym (append-nil row.sent) ∙ ap (λ xs. row.sent ++ xs) (sym empty) ∙ row.whole ∙ all in
+    record {
+      parts = map piece_bytes h.taken;
+      since = row.since ∙ ap (grown w.start.sent) sent;
+      between = whole.between;
+      at = whole.at;
+      place = whole.place;
+      text_is = joined_map h.taken ∙ ap text (sym (ap (λ ps. h.taken ++ ps) none ∙ append-nil h.taken)) ∙ whole.bytes;
+    }
+
+pub whole_law_holds : WholeLaw
+whole_law_holds = whole_by
+
+-- the bytes of streams
+
+taken_of_share : (s : SeatView) (number : ℕ) (share : Share) → share_of_hold s number ≡ Some share → taken_at s number ≡ share.taken
+taken_of_share s number share there = ap (λ (o : Option Share). option_map_or (λ (x : Share). x.taken) o []) there
+
+told_of_share : (s : SeatView) (number : ℕ) (share : Share) → share_of_hold s number ≡ Some share → told_at s number ≡ share.told
+told_of_share s number share there = ap (λ (o : Option Share). option_map_or (λ (x : Share). x.told) o None) there
+
+text_of : (chunked : Bool) (head : List ℕ) (s : SeatView) (number : ℕ) (share : Share) (told : Option EndCause) → share_of_hold s number ≡ Some share → share.told ≡ told
+    → stream_text chunked head share.taken told ≡ stream_text chunked head (taken_at s number) (told_at s number)
+text_of chunked head s number share told there is =
+    ap (λ ps. stream_text chunked head ps told) (sym (taken_of_share s number share there)) ∙ ap (λ (o : Option EndCause). stream_text chunked head (taken_at s number) o) (sym (told_of_share s number share there ∙ is))
+
+stopped_there : (s : SeatView) (hold : KeptView) (told : Option EndCause) (share : Share) → IsStopped s hold told share → (share_of_hold s hold.number ≡ Some share) × (share.told ≡ told)
+stopped_there s hold None share k = (k.there, k.untold)
+stopped_there s hold (Some cause) share k = (k.there, k.told_is)
+
+pub stream_law_holds : StreamLaw
+stream_law_holds = record {
+  streams = λ v w s x. subst (Sent w) (text_of v.chunked v.head s v.hold.number x.share None x.is.there x.is.untold) x.bytes;
+  finished = λ v w s cause x. (
+    subst (Sent w) (text_of v.chunked v.head s v.hold.number x.share (Some cause) x.is.there x.is.told_is) x.bytes,
+    told_of_share s v.hold.number x.share x.is.there ∙ x.is.told_is,
+  );
+  stopped = λ v w s told x.
+      let at = stopped_there s v.hold told x.share x.is in
+      (x.part, subst (IsPrefix x.part) (text_of v.chunked v.head s v.hold.number x.share told at.0 at.1) x.is_part, x.bytes);
+}

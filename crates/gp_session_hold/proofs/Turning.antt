@@ -85,7 +85,6 @@ delivering_none v w s now streams = record {
 }
 
 module _ (v u : StreamView) (w x : WireView) (s t : SeatView) (now count : ℕ) (d : Delivering v u w x s t now count) where
-
   -- a flush
   module _ (y : WireView) (answer : Flushed) (f : Flushes x y answer) where
     flushed_goes : Goes v u w y s t
@@ -240,7 +239,8 @@ module _ (v u : StreamView) (w x : WireView) (s t : SeatView) (now count : ℕ) 
 
     pub gave : PutsBehind x y (framed u.chunked taken.pieces) → taken.pieces ≢ [] → taken.ended ≡ None → IsServed a → Delivering v u' w y s a now (count + 1)
     gave p some open_is free = record {
-      goes = goes_served (framed u.chunked taken.pieces) p; sound = sound_now (framed u.chunked taken.pieces) p;
+      goes = goes_served (framed u.chunked taken.pieces) p;
+      sound = sound_now (framed u.chunked taken.pieces) p;
       holds = holds_open open_is;
       free = λ _. free;
       streams = streams_now p open_is;
@@ -258,7 +258,8 @@ module _ (v u : StreamView) (w x : WireView) (s t : SeatView) (now count : ℕ) 
     idle empty same none open_is free =
         let p : PutsBehind x y (framed u.chunked taken.pieces) = none_put same none in
         record {
-          goes = goes_served (framed u.chunked taken.pieces) p; sound = sound_now (framed u.chunked taken.pieces) p;
+          goes = goes_served (framed u.chunked taken.pieces) p;
+          sound = sound_now (framed u.chunked taken.pieces) p;
           holds = holds_open open_is;
           serves = λ _. free;
           says = (
@@ -278,7 +279,8 @@ module _ (v u : StreamView) (w x : WireView) (s t : SeatView) (now count : ℕ) 
 
     pub ended : (cause : EndCause) → PutsBehind x y (framed u.chunked taken.pieces ++ last_chunk u.chunked (Some cause)) → taken.ended ≡ Some cause → IsServed a → Delivers v u' w y s a now (streamed.Ended cause)
     ended cause p told free = record {
-      goes = goes_served (framed u.chunked taken.pieces ++ last_chunk u.chunked (Some cause)) p; sound = sound_now (framed u.chunked taken.pieces ++ last_chunk u.chunked (Some cause)) p;
+      goes = goes_served (framed u.chunked taken.pieces ++ last_chunk u.chunked (Some cause)) p;
+      sound = sound_now (framed u.chunked taken.pieces ++ last_chunk u.chunked (Some cause)) p;
       holds = holds_ended cause told;
       serves = λ _. free;
       says = record {

@@ -2,5 +2,6 @@ pub mod Rows
 pub mod Unlinked
 pub mod Opens
 pub mod Puts
+pub mod Leaves
 pub mod Streams
 pub mod Headline

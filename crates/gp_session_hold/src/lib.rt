@@ -13,12 +13,14 @@
 mod attaching;
 mod hold;
 mod law;
+mod leaving;
 mod sending;
 mod stream;
 mod unlinked;
 
 pub use attaching::{Opened, attach};
 pub use hold::KeptHold;
-pub use law::headline_law;
+pub use law::{headline_law, stream_law};
+pub use leaving::stream_end;
 pub use stream::{Stream, Streamed};
 pub use unlinked::without_link;

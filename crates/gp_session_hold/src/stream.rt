@@ -144,7 +144,7 @@ impl Stream {
 
     /// The hold.
     pub fn into_hold(self) -> KeptHold
-        ensures { result ≡ self.entry.hold }
+        ensures { result ≡ self.hold }
     {
         self.hold
     }
