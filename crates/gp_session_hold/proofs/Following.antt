@@ -8,7 +8,7 @@ use Rattle.gp_plain.specs.Chain.{Chain, Covers, FollowsLog}
 use Rattle.gp_plain.specs.Ends.{HasToldEnd}
 use Rattle.gp_plain.specs.History.{held}
 use Rattle.gp_plain.specs.Holds.{Held, log, pending, position, ended}
-use Rattle.gp_plain.specs.Others.{Share, share_of, share_at}
+use Rattle.gp_plain.specs.Others.{Share, share_of}
 use Rattle.gp_plain.specs.Pieces.{piece_bytes, text}
 use Rattle.gp_plain.specs.declared.reply.EndCause.{EndCause}
 use Rattle.gp_plain.specs.declared.reply.Piece.{Piece}
@@ -19,8 +19,8 @@ use Rattle.gp_answer.proofs.Frames.{frame_law_holds}
 use Rattle.gp_session.specs.Seats.{SeatView}
 use Rattle.gp_session.specs.Wires.{WireView, Sent, BytesRow, at_most, exactly}
 use Rattle.gp_outside.specs.Counts.{grown}
-use Rattle.gp_session_hold.specs.Rows.{KeptView, IsKept, IsOver, share_of_hold, taken_at, told_at, stream_text, StreamRow}
-use Rattle.gp_session_hold.specs.Streams.{StreamView, Streams, Finished, Stopped, IsStopped}
+use Rattle.gp_session_hold.specs.Rows.{KeptView, share_of_hold, taken_at, told_at, stream_text}
+use Rattle.gp_session_hold.specs.Streams.{IsStopped}
 use Rattle.gp_session_hold.specs.Headline.{FollowsSent, FollowsWhole, HeadlineLaw, WholeLaw, StreamLaw}
 
 abbrev joined : List (List ℕ) → List ℕ

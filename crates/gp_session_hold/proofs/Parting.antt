@@ -1,9 +1,8 @@
 -- What a Detach does to the rows of a session's holds.
-use Rattle.std.proofs.Common.{◌≡◌, ℕ, List, refl, Option, Some, None}
+use Rattle.std.proofs.Common.{◌≡◌, List, refl, Option}
 use Rattle.gp_plain.specs.declared.event.HoldSpec.{HoldSpec}
 use Rattle.gp_plain.specs.declared.reply.HoldReport.{HoldReport}
 use Rattle.gp_plain.specs.Others.{Share}
-use Rattle.gp_hub.specs.Own.{Keeps}
 use Rattle.gp_session.specs.Seats.{SeatView}
 use Rattle.gp_session.specs.Holding.{LetsGo}
 use Rattle.gp_session.specs.declared.holding.LetGo.{LetGo}

@@ -1,12 +1,11 @@
 -- Pieces that are counted and put one after another.
-use Rattle.std.proofs.Common.{◌≡◌, ◌≢◌, ℕ, ◌==◌, Bool, true, false, List, [], ◌∷◌, ◌++◌, length, map, drop, refl, sym, ap, ◌∙◌, subst, append_assoc, append-nil, slice_get, Option, Some, None, arith}
+use Rattle.std.proofs.Common.{◌≡◌, ◌≢◌, ℕ, ◌==◌, Bool, true, false, List, [], ◌∷◌, ◌++◌, length, map, drop, refl, sym, ap, ◌∙◌, subst, append_assoc, append-nil, slice_get, Some, None, arith}
 use Rattle.std.proofs.lemmas.Bool.{eqb-true}
 use Rattle.std.specs.List.{flat_map}
 use Rattle.std.proofs.lemmas.Grind.{flat_map-append}
 use Rattle.std.proofs.lemmas.List.{map-append}
 use mathlib.Core.List.{IsPrefix}
 use Rattle.gp_outside.specs.Links.{LinkTells}
-use Rattle.gp_plain.specs.declared.event.HoldSpec.{HoldSpec}
 use Rattle.gp_plain.specs.declared.reply.EndCause.{EndCause}
 use Rattle.gp_plain.specs.declared.reply.Piece.{Piece}
 use Rattle.gp_plain.specs.declared.reply.Piece.TheVariants.{Opening, Item as ItemPiece, Page as PagePiece, Message as MessagePiece, Answer as AnswerPiece}
@@ -16,7 +15,7 @@ use Rattle.gp_plain.specs.Reports.{tally_of, payload_of}
 use Rattle.gp_answer.specs.Frames.{framed_by, last_chunk}
 use Rattle.gp_session.specs.Wires.{WireView}
 use Rattle.gp_session_hold.specs.Rows.{KeptView}
-use Rattle.gp_session_hold.specs.Puts.{payload_bytes, framed, PutsBehind, PutsPart, PutsAs, PutsOnce, PutsNext, Counts, PutsSome, SendsAs, Sends, given_by}
+use Rattle.gp_session_hold.specs.Puts.{payload_bytes, framed, PutsBehind, PutsPart, PutsAs, PutsNext, Counts, PutsSome, SendsAs, Sends, given_by}
 use Rattle.gp_session_hold.specs.declared.sending.Given.{Given}
 use Rattle.gp_session_hold.specs.declared.sending.Given.TheVariants as given
 

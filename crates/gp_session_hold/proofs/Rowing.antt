@@ -1,7 +1,6 @@
 -- What each call of a session's does to the rows of its holds.
-use Rattle.std.proofs.Common.{◌≡◌, ℕ, true, false, List, [], ◌∷◌, ◌++◌, map, refl, sym, ap, ◌∙◌, subst, append-nil, Option, Some, None, is_some}
-use Rattle.std.specs.Option.{option_to_list}
-use Rattle.std.specs.List.{All, Contains, flat_map}
+use Rattle.std.proofs.Common.{◌≡◌, ℕ, List, [], ◌∷◌, ◌++◌, refl, sym, ap, ◌∙◌, subst, append-nil, Option, Some, None, is_some}
+use Rattle.std.specs.List.{All, Contains}
 use Rattle.std.proofs.lemmas.Grind.{flat_map-append}
 use Rattle.std.proofs.lemmas.List.{map-append}
 use Rattle.std.proofs.lemmas.List.Elements.{All-append, All-nil, All-push, All-weaker, Contains-append_left}
@@ -16,10 +15,10 @@ use Rattle.gp_plain.specs.declared.reply.Taken.{Taken}
 use Rattle.gp_plain.specs.History.{held}
 use Rattle.gp_plain.specs.Others.{Share, share_at, shares}
 use Rattle.gp_plain.specs.Reports.{tally_of, report}
-use Rattle.gp_hub.specs.Passes.{HubView, entry_of}
+use Rattle.gp_hub.specs.Passes.{entry_of}
 use Rattle.gp_hub.specs.Own.{HasMade, HasNewHold, HasNoPlace, HasTaken, HasDetached, fresh_share, share_with, share_gone, with_share, mine}
 use Rattle.gp_session.specs.Seats.{SeatView, HasNoHolds}
-use Rattle.gp_session_hold.specs.Rows.{holds_of, share_of_hold, KeptView, IsCounted, IsKept, IsOver, LastHold, none, kept, over, reports_of, IsReleased, HasLast, StandsLast, HoldsRow, numbers_of, IsOwnEvent, IsOwn, EntriesRow, DetachedRow, spec_in, specs_in, specs_of, AttachRow}
+use Rattle.gp_session_hold.specs.Rows.{holds_of, share_of_hold, KeptView, IsKept, IsOver, LastHold, none, kept, over, IsReleased, StandsLast, HoldsRow, numbers_of, IsOwnEvent, IsOwn, EntriesRow, DetachedRow, spec_in, specs_in, specs_of, AttachRow}
 use Rattle.gp_session_hold.specs.Puts.{Counts}
 use Rattle.gp_session_hold.proofs.Owning.{below, last_changed, numbers_stay, specs_stay, contains_own}
 

@@ -1,14 +1,12 @@
 -- The turns of a stream, one after another.
-use Rattle.std.proofs.Common.{◌≡◌, ◌≢◌, ℕ, ◌+◌, Bool, true, false, List, [], ◌∷◌, ◌++◌, map, refl, sym, ap, ◌∙◌, subst, append_assoc, append-nil, arith, Option, Some, None, is_some, ◌⊎◌, inl, inr}
-use Rattle.std.specs.List.{flat_map}
+use Rattle.std.proofs.Common.{◌≡◌, ◌≢◌, ℕ, ◌+◌, Bool, true, false, List, [], ◌++◌, map, refl, sym, ap, ◌∙◌, subst, append_assoc, append-nil, Option, Some, None, is_some}
 use Rattle.std.proofs.lemmas.List.{map-append}
 use mathlib.Core.List.{IsPrefix}
-use Rattle.gp_outside.specs.Counts.{Rose}
 use Rattle.gp_outside.specs.Links.{LinkTells}
 use Rattle.gp_outbox.specs.declared.outbox.Flushed.{Flushed}
 use Rattle.gp_outbox.specs.declared.outbox.Flushed.TheVariants as flushed
-use Rattle.gp_plain.specs.Holds.{terms_of, is_retry}
-use Rattle.gp_plain.specs.Kinds.{TakenFits, RecoverFits, may_end}
+use Rattle.gp_plain.specs.Holds.{is_retry}
+use Rattle.gp_plain.specs.Kinds.{TakenFits, RecoverFits}
 use Rattle.gp_plain.specs.Others.{Share}
 use Rattle.gp_plain.specs.Pieces.{piece_bytes}
 use Rattle.gp_plain.specs.declared.event.HoldSpec.{HoldSpec}
@@ -17,19 +15,16 @@ use Rattle.gp_plain.specs.declared.reply.EndCause.{EndCause}
 use Rattle.gp_plain.specs.declared.reply.HoldReport.{HoldReport}
 use Rattle.gp_plain.specs.declared.reply.Piece.{Piece}
 use Rattle.gp_plain.specs.declared.reply.Taken.{Taken}
-use Rattle.gp_answer.specs.Frames.{frame, framed_by, last_chunk}
+use Rattle.gp_answer.specs.Frames.{frame, last_chunk}
 use Rattle.gp_answer.proofs.Frames.{frame_law_holds}
 use Rattle.gp_hub.specs.Own.{HasTaken, Keeps, share_with}
-use Rattle.gp_session.specs.Causes.{WriteWaited}
-use Rattle.gp_session.specs.Holding.{MetBusy, MetWorn, MetWant}
 use Rattle.gp_session.specs.Seats.{SeatView, MovedSeat, SeatRow, IsServed, IsWorn, Busied}
-use Rattle.gp_session.specs.Wires.{WireView, MovedWire, Sent, Flushes}
+use Rattle.gp_session.specs.Wires.{WireView, Sent, Flushes}
 use Rattle.gp_session.proofs.Moving.{rose_from, moved_wire_same, moved_wire_again, moved_seat_same, moved_seat_again, sent_put, sent_flushed, moved_flushed, moved_put, write_waited_from, busied_from}
-use Rattle.gp_session_hold.specs.Rows.{KeptView, IsKept, IsOver, HoldsRow, kept, over, EntriesRow, AttachRow, stream_text}
+use Rattle.gp_session_hold.specs.Rows.{KeptView, IsKept, HoldsRow, kept, over, stream_text}
 use Rattle.gp_session_hold.specs.Unlinked.{IsUnlinked}
-use Rattle.gp_session_hold.specs.Puts.{framed, PutsBehind, PutsPart, Counts, Sends}
-use Rattle.gp_session_hold.specs.Streams.{StreamView, Streams, Finished, Stopped, IsStopped, Gives, begins, gives, Idles, Goes, Delivers, Delivering, TurnsWith, TurnsTo, Turns}
-use Rattle.gp_session_hold.specs.declared.sending.Given.{Given}
+use Rattle.gp_session_hold.specs.Puts.{framed, PutsBehind, PutsPart, Counts}
+use Rattle.gp_session_hold.specs.Streams.{StreamView, Streams, Stopped, IsStopped, Gives, begins, gives, Goes, Delivers, Delivering, Turns}
 use Rattle.gp_session_hold.specs.declared.sending.Given.TheVariants as given
 use Rattle.gp_session_hold.specs.declared.stream.Streamed.TheVariants as streamed
 use Rattle.gp_session_hold.specs.declared.stream.Turned.TheVariants as turned

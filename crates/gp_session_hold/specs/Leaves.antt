@@ -1,6 +1,5 @@
 -- How a session lets a hold go that it keeps.
-use Rattle.std.specs.Prelude.{ℕ, Option, Some, None}
-use Rattle.gp_plain.specs.Kinds.{may_end}
+use Rattle.std.specs.Prelude.{ℕ, None}
 use Rattle.gp_plain.specs.declared.reply.EndCause.{EndCause}
 use Rattle.gp_plain.specs.declared.reply.EndCause.TheVariants.{Closed, Detached, Gap, Unrecovered, Overflow, Answered, Retry, TimedOut}
 use Rattle.gp_plain.specs.Others.{Share}

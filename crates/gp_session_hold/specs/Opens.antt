@@ -1,5 +1,5 @@
 -- How a session attaches a hold.
-use Rattle.std.specs.Prelude.{ℕ, ◌≡◌, ◌<◌, List, [], ◌∷◌, ◌++◌, Option, Some, None}
+use Rattle.std.specs.Prelude.{ℕ, ◌≡◌, ◌<◌, List, [], ◌∷◌, ◌++◌, Some, None}
 use Rattle.gp_plain.specs.declared.event.HoldSpec.{HoldSpec}
 use Rattle.gp_plain.specs.Reports.{TallyView, tally_of}
 use Rattle.gp_hub.specs.Own.{HasNewHold, HasNoPlace}
@@ -7,7 +7,7 @@ use Rattle.gp_session.specs.Seats.{SeatView, IsServed}
 use Rattle.gp_session.specs.Holding.{Serves, MetBusy, MetWorn}
 use Rattle.gp_session.specs.declared.holding.Attached.{Attached}
 use Rattle.gp_session.specs.declared.holding.Attached.TheVariants as attached
-use Rattle.gp_session_hold.specs.Rows.{LastHold, none, kept, HoldsRow, AttachRow, KeptView}
+use Rattle.gp_session_hold.specs.Rows.{LastHold, none, kept, AttachRow, KeptView}
 use Rattle.gp_session_hold.specs.declared.attaching.Opened.{Opened}
 use Rattle.gp_session_hold.specs.declared.attaching.Opened.TheVariants as opened
 

@@ -1,17 +1,14 @@
 -- How what a Take gave is put behind the bytes that wait for a client.
-use Rattle.std.specs.Prelude.{ℕ, ◌≡◌, ◌≢◌, Bool, true, false, List, [], ◌∷◌, ◌++◌, map, Option, Some, None}
+use Rattle.std.specs.Prelude.{ℕ, ◌≡◌, ◌≢◌, Bool, true, false, List, [], ◌++◌, map, Some, None}
 use Rattle.std.specs.List.{flat_map}
 use mathlib.Core.List.{IsPrefix}
 use Rattle.gp_plain.specs.declared.event.HoldSpec.{HoldSpec}
-use Rattle.gp_plain.specs.declared.item.Message.{Message}
-use Rattle.gp_plain.specs.declared.item.Message.TheVariants.{Text, Binary, Ping, Pong, Close}
-use Rattle.gp_plain.specs.declared.reply.EndCause.{EndCause}
 use Rattle.gp_plain.specs.declared.reply.Piece.{Piece}
 use Rattle.gp_plain.specs.declared.reply.Taken.{Taken}
 use Rattle.gp_plain.specs.declared.tally.Payload.{Payload}
 use Rattle.gp_plain.specs.declared.tally.Payload.TheVariants as payload
 use Rattle.gp_plain.specs.Pieces.{piece_bytes, message_bytes}
-use Rattle.gp_plain.specs.Reports.{TallyView, tally_of}
+use Rattle.gp_plain.specs.Reports.{tally_of}
 use Rattle.gp_answer.specs.Frames.{framed_by, last_chunk}
 use Rattle.gp_session.specs.Wires.{WireView}
 use Rattle.gp_session_hold.specs.Rows.{KeptView}

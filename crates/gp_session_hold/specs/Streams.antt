@@ -1,11 +1,10 @@
 -- A stream to a client: what it keeps true, and what one poll delivers.
-use Rattle.std.specs.Prelude.{ℕ, ◌≡◌, ◌≢◌, ◌+◌, ◌<◌, ◌⊎◌, Bool, true, List, [], ◌++◌, map, Option, Some, None}
+use Rattle.std.specs.Prelude.{ℕ, ◌≡◌, ◌≢◌, ◌+◌, Bool, true, List, [], Option, Some, None}
 use mathlib.Core.List.{IsPrefix}
 use Rattle.gp_outside.specs.Counts.{Rose}
 use Rattle.gp_plain.specs.declared.event.HoldSpec.{HoldSpec}
 use Rattle.gp_plain.specs.declared.reply.EndCause.{EndCause}
 use Rattle.gp_plain.specs.declared.reply.HoldReport.{HoldReport}
-use Rattle.gp_plain.specs.declared.reply.Piece.{Piece}
 use Rattle.gp_plain.specs.declared.reply.Taken.{Taken}
 use Rattle.gp_plain.specs.Others.{Share}
 use Rattle.gp_plain.specs.Kinds.{may_end}
@@ -18,7 +17,6 @@ use Rattle.gp_session_hold.specs.Rows.{KeptView, IsKept, IsOver, HoldsRow, Entri
 use Rattle.gp_session_hold.specs.Unlinked.{IsUnlinked}
 use Rattle.gp_session_hold.specs.Puts.{Sends}
 use Rattle.gp_session_hold.specs.declared.sending.Given.{Given}
-use Rattle.gp_session_hold.specs.declared.sending.Given.TheVariants as given
 use Rattle.gp_session_hold.specs.declared.stream.Streamed.{Streamed}
 use Rattle.gp_session_hold.specs.declared.stream.Streamed.TheVariants as streamed
 use Rattle.gp_session_hold.specs.declared.stream.Turned.{Turned}

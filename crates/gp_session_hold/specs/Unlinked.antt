@@ -1,5 +1,5 @@
 -- Holds that ask the origin for nothing. Missing items can't be asked for yet, so no hold is attached that would ask.
-use Rattle.std.specs.Prelude.{◌≡◌, Bool, false}
+use Rattle.std.specs.Prelude.{◌≡◌, false}
 use Rattle.gp_plain.specs.Holds.{terms_of}
 use Rattle.gp_plain.specs.declared.event.HoldSpec.{HoldSpec}
 use Rattle.gp_plain.specs.declared.event.HoldSpec.TheVariants.{Stream, Plain, Response, Socket}

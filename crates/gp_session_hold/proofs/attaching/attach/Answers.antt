@@ -1,4 +1,4 @@
-use Rattle.gp_session_hold.proofs.Opening.{opens_by, holds_by, entries_by, attaches_by}
+use Rattle.gp_session_hold.proofs.Opening.{entries_by}
 use Rattle.gp_session_hold.proofs.attaching.attach.Goals as goal
 
 pub returns-clause-entries : goal.returns-clause-entries

@@ -1,6 +1,6 @@
 use Rattle.std.proofs.Common.{ap, ◌∙◌}
 use Rattle.gp_session_hold.specs.Puts.{payload_bytes}
-use Rattle.gp_session_hold.proofs.Putting.{payload_is, some_goes, some_counted, some_put}
+use Rattle.gp_session_hold.proofs.Putting.{payload_is, some_goes}
 use Rattle.gp_session_hold.proofs.sending.put_pieces.Goals as goal
 
 pub loop-piece-preserved : goal.loop-piece-preserved

@@ -1,5 +1,5 @@
 use Rattle.std.proofs.Common.{subst}
-use Rattle.std.specs.Prelude.{Some, true, false}
+use Rattle.std.specs.Prelude.{Some}
 use Rattle.gp_answer.specs.Frames.{last_chunk}
 use Rattle.gp_session_hold.specs.Puts.{PutsNext}
 use Rattle.gp_session_hold.proofs.Putting.{sends_open, sends_end, sends_part}
