@@ -8,16 +8,23 @@ use Rattle.gp_session.specs.Holding.{AttachedTo}
 use Rattle.gp_session.specs.declared.holding.Attached.{Attached}
 use Rattle.gp_session.specs.declared.holding.Attached.TheVariants as attached
 use Rattle.gp_session_hold.specs.Rows.{none, HoldsRow, EntriesRow, AttachRow}
+use Rattle.gp_session_hold.specs.Unlinked.{IsUnlinked}
 use Rattle.gp_session_hold.specs.Opens.{OpensTo, AttachesTo, last_opened, opened_by}
-use Rattle.gp_session_hold.proofs.Rowing.{holds_same, entries_same, attaches_same, holds_new, entries_new, attaches_new, holds_full, entries_full, attaches_full}
+use Rattle.gp_session_hold.proofs.Rowing.{holds_same, entries_same, attaches_same, kept_new, holds_new, entries_new, attaches_new, holds_full, entries_full, attaches_full}
 
 module _ (s t : SeatView) (number : t.pass.number ≡ s.pass.number) (spec : HoldSpec) (tally : TallyView) (counted : tally ≡ tally_of spec []) where
-  pub opens_by : (room : ℕ) (answer : Attached) → 0 < room → AttachedTo s t spec answer → OpensTo s t spec room (opened_by tally answer)
-  opens_by room (attached.Hold n) some a = record { served = a; counted = counted; room_is = some }
-  opens_by room attached.Full some a = a
-  opens_by room (attached.Busy back) some a = a
-  opens_by room attached.Worn some a = a
-  opens_by room attached.NoMemory some a = record { seen = a.seen; free = λ _. a.free }
+  pub opens_by : (room : ℕ) (answer : Attached) → IsUnlinked spec → 0 < room → AttachedTo s t spec answer → OpensTo s t spec room (opened_by tally answer)
+  opens_by room (attached.Hold n) unlinked some a = record {
+    served = a;
+    counted = counted;
+    is = kept_new s t number spec (record { number = n; tally = tally }) a.served counted;
+    unlinked = unlinked;
+    room_is = some;
+  }
+  opens_by room attached.Full unlinked some a = a
+  opens_by room (attached.Busy back) unlinked some a = a
+  opens_by room attached.Worn unlinked some a = a
+  opens_by room attached.NoMemory unlinked some a = record { seen = a.seen; free = λ _. a.free }
 
   pub holds_by : (reports : List HoldReport) (answer : Attached) → AttachedTo s t spec answer → HoldsRow s reports none → HoldsRow t reports (last_opened (opened_by tally answer))
   holds_by reports (attached.Hold n) a row = holds_new s t number spec (record { number = n; tally = tally }) a.served reports counted row
