@@ -22,10 +22,16 @@ use Rattle.gp_session_hold.specs.Rows.{holds_of, share_of_hold, KeptView, IsKept
 use Rattle.gp_session_hold.specs.Puts.{Counts}
 use Rattle.gp_session_hold.proofs.Owning.{below, last_changed, numbers_stay, specs_stay, contains_own}
 
--- the row of the holds
+-- the rows of a session that has made no entry
 
 pub holds_none : (s : SeatView) → HasNoHolds s → HoldsRow s [] none
 holds_none s empty = record { done = []; reported = refl; released = All-nil IsReleased; stands = empty }
+
+pub entries_none : (s : SeatView) → mine s.pass ≡ [] → EntriesRow s
+entries_none s empty = subst (All (IsOwn (numbers_of (holds_of s)))) (sym empty) (All-nil (IsOwn (numbers_of (holds_of s))))
+
+pub attaches_none : (s : SeatView) → mine s.pass ≡ [] → HasNoHolds s → AttachRow s [] None
+attaches_none s empty holds = record { made = ap specs_in empty; holds = ap specs_of holds }
 
 module _ (s t : SeatView) (number : t.pass.number ≡ s.pass.number) where
   by_number : (holds : List (ℕ × Share)) → shares s.pass.number t.pass.seen ≡ holds → holds_of t ≡ holds

@@ -24,7 +24,7 @@ use Rattle.gp_session.proofs.Moving.{rose_from, moved_wire_same, moved_wire_agai
 use Rattle.gp_session_hold.specs.Rows.{KeptView, IsKept, HoldsRow, kept, over, stream_text}
 use Rattle.gp_session_hold.specs.Unlinked.{IsUnlinked}
 use Rattle.gp_session_hold.specs.Puts.{framed, PutsBehind, PutsPart, Counts}
-use Rattle.gp_session_hold.specs.Streams.{StreamView, Streams, Stopped, IsStopped, Gives, begins, gives, Goes, Delivers, Delivering, Turns}
+use Rattle.gp_session_hold.specs.Streams.{StreamView, Streams, Finished, Stopped, IsStopped, Gives, begins, gives, Goes, Delivers, Delivering, Turns}
 use Rattle.gp_session_hold.specs.declared.sending.Given.TheVariants as given
 use Rattle.gp_session_hold.specs.declared.stream.Streamed.TheVariants as streamed
 use Rattle.gp_session_hold.specs.declared.stream.Turned.TheVariants as turned
@@ -56,6 +56,15 @@ asks_nothing (Response channels prev deadline again) taken off fits open_is = by
     by_recover None e = refl
     by_recover (Some at) e = absurd (let f : true ≡ false = e in (cc))
 asks_nothing Socket taken off fits open_is = fits
+
+-- a stream that has ended stays so while what waits is sent
+pub finished_flushed : (v : StreamView) (w x : WireView) (s : SeatView) (cause : EndCause) (answer : Flushed) → Flushes w x answer → Finished v w s cause → Finished v x s cause
+finished_flushed v w x s cause answer f e = record {
+  share = e.share;
+  is = e.is;
+  cause_is = e.cause_is;
+  bytes = sent_flushed w x (stream_text v.chunked v.head e.share.taken (Some cause)) answer e.bytes f;
+}
 
 -- a poll that begins
 pub delivering_none : (v : StreamView) (w : WireView) (s : SeatView) (now : ℕ) → Streams v w s → Delivering v v w w s s now 0
