@@ -5,9 +5,9 @@
 //! gives behind the bytes that wait for the client, each piece copied once at the most.
 //!
 //! `specs/Rows.antt` has what a session says of its holds, of the entries that it made and of the bytes that it sent.
-//! `specs/Opens.antt` says what attaching comes to, `specs/Puts.antt` what is put, and `specs/Streams.antt` what a poll of a
-//! stream delivers and why it waits. `specs/Headline.antt` has the law of what a client is sent. It stands on `gp_session`,
-//! `gp_answer` and `gp_hub`, and has no handle.
+//! `specs/Opens.antt` says what attaching comes to, and `specs/Leaves.antt` what letting go does. `specs/Puts.antt` says what is put
+//! of a Take, `specs/Streams.antt` what a stream delivers, and `specs/Polls.antt` why it waits. `specs/Headline.antt` has the law of
+//! what a client is sent. It stands on `gp_session`, `gp_answer`, `gp_intake` and `gp_hub`, and has no handle.
 #![tactic(auto)]
 
 mod attaching;
