@@ -17,7 +17,7 @@ use Rattle.gp_intake.specs.Polls.{Hears}
 use Rattle.gp_session.specs.Wires.{WireView, new_wire, MovedWire, RequestRow, Sent, Flushes}
 use Rattle.gp_session.specs.Seats.{SeatView, new_seat, MovedSeat, IsSamePass, IsFresh, IsApart, SeatRow, HasNoHolds, Busied}
 use Rattle.gp_session.specs.Causes.{ReadWaited, WriteWaited}
-use Rattle.gp_session.proofs.Publishing.{same_again}
+use Rattle.gp_session.proofs.Calling.{same_again}
 
 pub rose_from : (a b c : ℕ) → a ≤ b → Rose b c → Rose a c
 rose_from a b c le rose = omega arith

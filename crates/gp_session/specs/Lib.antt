@@ -1,5 +1,7 @@
 pub mod Wires
 pub mod Seats
+pub mod Holding
+pub mod Hearing
 pub mod Causes
 pub mod Lines
 pub mod Watches

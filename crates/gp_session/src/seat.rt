@@ -26,8 +26,8 @@ pub enum Published {
 /// A hub, and the session's pass of it.
 #[derive(Drop)]
 pub struct Seat<'h> {
-    hub: &'h Hub,
-    pass: HubPass,
+    pub(crate) hub: &'h Hub,
+    pub(crate) pass: HubPass,
     /// The pass as the session began with it, which contracts alone remember.
     start: Snapshot<HubPass>,
 }

@@ -14,7 +14,7 @@ use std::snapshot::Snapshot;
 /// A client's link, and the bytes that wait for it.
 #[derive(Drop)]
 pub struct Wire<L: Link> {
-    link: L,
+    pub(crate) link: L,
     /// The link as the session began with it, which contracts alone remember.
     start: Snapshot<L>,
     outbox: Outbox,

@@ -1,0 +1,8 @@
+pub mod Rows
+pub mod Unlinked
+pub mod Opens
+pub mod Puts
+pub mod Leaves
+pub mod Streams
+pub mod Polls
+pub mod Headline
