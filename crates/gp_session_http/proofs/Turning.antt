@@ -99,3 +99,7 @@ pub poll_waits : (v : SessionView) (o : Option OpenView) (left : Option DevicesV
     → Waits p.live q → PollWaits v (record { open_is = Some q; left = left })
 poll_waits v o left p q same is (inl none) w = let no_open : ⊥ = none_some p (sym none ∙ is) in absurd no_open
 poll_waits v o left p q same is (inr none) w = record { p = p; q = q; was = sym (ap (λ (x : SessionView). x.open_is) same) ∙ is; is = refl; waits = w; left = none }
+
+pub none_left : (o : Option OpenView) (left : Option DevicesView) (p : OpenView) → o ≡ Some p → (o ≡ None) ⊎ (left ≡ None) → left ≡ None
+none_left o left p is (inl none) = let no_open : ⊥ = none_some p (sym none ∙ is) in absurd no_open
+none_left o left p is (inr none) = none

@@ -17,6 +17,7 @@ use gp_routes::Routes;
 use gp_session::{Line, Seat, Watch, Wire};
 use std::alloc::Global;
 use std::marker::Model;
+use std::mem;
 
 /// A session that goes on: its ends, and what it expects. Its rows hold.
 #[derive(Drop)]
@@ -201,11 +202,11 @@ impl<'h, L: Link, D: Dial, C: Clock> Session for HttpSession<'h, L, D, C> {
         match self.open.take() {
             Some(open) => match open.advance() {
                 Ok(open) => {
-                    self.open = Some(open);
+                    drop(mem::replace(&mut self.open, Some(open)));
                     Polled::Pending
                 }
                 Err((outcome, devices)) => {
-                    self.left = Some(devices);
+                    drop(mem::replace(&mut self.left, Some(devices)));
                     Polled::Ready(Finish::Done(outcome))
                 }
             },
