@@ -1,5 +1,5 @@
 -- What is meant by what a session of a server leaves.
-use Rattle.std.specs.Prelude.{ℕ, ◌≡◌, ◌×◌, List, ◌++◌, codes, decimal, Option, None, Some, IfSome, ⊤}
+use Rattle.std.specs.Prelude.{ℕ, ◌≡◌, List, ◌++◌, codes, decimal, Option, None, Some, IfSome, ⊤}
 use Rattle.gp_plain.specs.declared.event.Entry.{Entry}
 use Rattle.gp_plain.specs.declared.http.Signer.{Signer}
 use Rattle.gp_plain.specs.declared.reply.HoldReport.{HoldReport}

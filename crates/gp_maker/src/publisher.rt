@@ -1,18 +1,13 @@
 //! The session of a publisher, over the devices of a kit.
-ghost use Rattle.std.specs.Prelude.{◌≡◌, Some};
-ghost use Rattle.gp_session.specs.Seats.{IsFresh};
-ghost use Rattle.gp_session_publish.specs.Polls.{new_session};
-
-use gp_hub::{Hub, HubPass, Polled, Session};
+use gp_hub::{Polled, Session};
 use gp_outside::{Kit, Listen};
 use gp_session_publish::PublishSession;
 use gp_workers::{Finished, Over};
-use std::alloc::Global;
 
 /// The session of a publisher. Its output has its link beside its outcome.
 #[derive(Drop)]
 pub struct Publishing<'h, K: Kit> {
-    session: Option<PublishSession<'h, <K::Listen as Listen>::Link>>,
+    pub(crate) session: Option<PublishSession<'h, <K::Listen as Listen>::Link>>,
 }
 
 impl<'h, K: Kit> Session for Publishing<'h, K> {
@@ -42,24 +37,6 @@ impl<'h, K: Kit> Session for Publishing<'h, K> {
                 }),
                 None => unreachable!(),
             },
-        }
-    }
-}
-
-impl<'h, K: Kit> Publishing<'h, K> {
-    /// A session over a link. It takes no memory.
-    pub(crate) fn new(
-        alloc: Global,
-        hub: &'h Hub,
-        pass: HubPass,
-        link: <K::Listen as Listen>::Link,
-    ) -> Publishing<'h, K>
-        requires turn { pass.turn ≡ hub.now }
-        requires fresh { IsFresh pass }
-        ensures { result.session ≡ Some (new_session (K.Listen.Link.tells link) pass) }
-    {
-        Publishing {
-            session: Some(PublishSession::new(alloc, hub, pass, link)),
         }
     }
 }

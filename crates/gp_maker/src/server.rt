@@ -1,9 +1,6 @@
 //! The maker of a server's sessions.
-ghost use Rattle.std.specs.Prelude.{◌≡◌, IfOk, IfErr, ℕ};
-ghost use Rattle.gp_outside.specs.Kits.{TellsTheSame};
-ghost use Rattle.gp_outside.specs.Unused.{IsUnusedLink};
-ghost use Rattle.gp_workers.specs.Makers.{IsGiven, IsUnused};
-ghost use Rattle.gp_maker.specs.Meanings.{Means, tag_of};
+ghost use Rattle.std.specs.Prelude.{◌≡◌, IfOk};
+ghost use Rattle.gp_maker.specs.Meanings.{tag_of};
 
 use crate::client::Serving;
 use crate::publisher::Publishing;
@@ -11,6 +8,8 @@ use gp_hub::{Hub, HubPass};
 use gp_outside::{Kit, Listen};
 use gp_plain::{Body, Signer};
 use gp_routes::Routes;
+use gp_session_http::HttpSession;
+use gp_session_publish::PublishSession;
 use gp_workers::Maker;
 use std::alloc::{AllocError, Global};
 use std::marker::PhantomData;
@@ -46,7 +45,9 @@ impl<'h, K: Kit + Send> Server<'h, K> {
         started: u64,
     ) -> Server<'h, K>
         ensures hub { result.hub.now ≡ hub.now }
-        ensures made { record { rules = result.routes.now; signer = result.signer.now; started = result.started } ≡ record { rules = routes.now; signer = signer.now; started = started } }
+        ensures routes { result.routes.now ≡ routes.now }
+        ensures signer { result.signer.now ≡ signer.now }
+        ensures started { result.started ≡ started }
     {
         Server {
             alloc,
@@ -85,17 +86,19 @@ impl<'h, K: Kit + Send> Maker for Server<'h, K> {
         };
         let dial = kit.dial();
         let clock = kit.clock();
-        Ok(Serving::new(
-            self.alloc,
-            self.hub,
-            pass,
-            self.routes,
-            self.signer,
-            tag,
-            link,
-            dial,
-            clock,
-        ))
+        Ok(Serving {
+            session: Some(HttpSession::new(
+                self.alloc,
+                self.hub,
+                pass,
+                self.routes,
+                self.signer,
+                tag,
+                link,
+                dial,
+                clock,
+            )),
+        })
     }
 
     fn publisher(
@@ -104,6 +107,8 @@ impl<'h, K: Kit + Send> Maker for Server<'h, K> {
         pass: HubPass,
         link: <K::Listen as Listen>::Link,
     ) -> Result<Publishing<'h, K>, (HubPass, AllocError)> {
-        Ok(Publishing::new(self.alloc, self.hub, pass, link))
+        Ok(Publishing {
+            session: Some(PublishSession::new(self.alloc, self.hub, pass, link)),
+        })
     }
 }

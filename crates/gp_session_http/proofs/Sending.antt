@@ -262,8 +262,8 @@ module _ (v : LiveView) (l : LineView) (s : PassingStage) (told : Told v (Passin
     moved = moved_line v l moved;
     to = (
       finishing_told (with_line v l) s.passed y t cause.Unrecovered told.parts told.given told.cut whose exchange is
-      (subst (HasAsked (with_line v l) (asked_of s.passed) y (hung (said y told.given))) (cut_text s.passed told.parts) (over_rows (last.Fault f) over row))
-      (record { head = head ∙ told.at.head; on = told.at.on; ended = (f, over); bare = λ b. (let no : true ≡ false = sym b ∙ told.at.body in let never : ⊥ = cc in absurd never) }),
+          (subst (HasAsked (with_line v l) (asked_of s.passed) y (hung (said y told.given))) (cut_text s.passed told.parts) (over_rows (last.Fault f) over row))
+          (record { head = head ∙ told.at.head; on = told.at.on; ended = (f, over); bare = λ b. (let no : true ≡ false = sym b ∙ told.at.body in let never : ⊥ = cc in absurd never) }),
       omega arith,
     );
   }
@@ -300,7 +300,7 @@ module _ (v : LiveView) (w : WireView) (s : PassingStage) (part : List ℕ) (h :
       let x = s.exchange in
       let text = passed_text s.passed h.parts None in
       let rows = polled (with_wire v w) l (asked_of s.passed) x x (speaking (said x (h.given ++ part))) (hung (said x (h.given ++ part))) text moved refl row
-          (put_none v w start link (asked_of s.passed) x (speaking (said x (h.given ++ part))) text h.rows rest) in
+      (put_none v w start link (asked_of s.passed) x (speaking (said x (h.given ++ part))) text h.rows rest) in
       passing_lost (with_line (with_wire v w) l) s (h.parts ++ part ∷ []) (h.given ++ part) text (framed_by s.passed.chunked part) 2 v
       (moved_again v (with_wire v w) (with_line (with_wire v w) l) (moved_unput v w start link rest) (moved_line (with_wire v w) l moved)) (more_parts h.parts h.given part h.cut h.some) rows (grows_part s.passed h.parts part) ended is
 
@@ -313,9 +313,9 @@ module _ (v : LiveView) (w : WireView) (s : PassingStage) (h : HasGivenAll v s) 
         moved = moved_by_put v w more start link rest;
         to = (
           finishing_told (with_wire v w) s.passed s.exchange t cause.Closed h.parts h.given h.cut same exchange is
-          (subst (HasAsked (with_wire v w) (asked_of s.passed) s.exchange (hung (said s.exchange h.given))) (sym (grows_end s.passed h.parts cause.Closed))
-          (put_on v w start link (asked_of s.passed) s.exchange (hung (said s.exchange h.given)) (passed_text s.passed h.parts None) h.rows more rest))
-          (record { head = h.head; on = h.on; ended = inl h.over; bare = λ b. (let no : true ≡ false = sym b ∙ h.body in let never : ⊥ = cc in absurd never) }),
+              (subst (HasAsked (with_wire v w) (asked_of s.passed) s.exchange (hung (said s.exchange h.given))) (sym (grows_end s.passed h.parts cause.Closed))
+              (put_on v w start link (asked_of s.passed) s.exchange (hung (said s.exchange h.given)) (passed_text s.passed h.parts None) h.rows more rest))
+              (record { head = h.head; on = h.on; ended = inl h.over; bare = λ b. (let no : true ≡ false = sym b ∙ h.body in let never : ⊥ = cc in absurd never) }),
           omega arith,
         );
       }

@@ -130,11 +130,7 @@ impl Asking {
     }
 
     /// Refuses the response, whose talk is over.
-    fn fail<'h, L: Link, D: Dial, C: Clock>(
-        self,
-        live: &mut Live<'h, L, D, C>,
-        why: Why,
-    ) -> Next
+    fn fail<'h, L: Link, D: Dial, C: Clock>(self, live: &mut Live<'h, L, D, C>, why: Why) -> Next
         requires told { IsFailedAt live.old self why }
         ensures leads { Leads live.old live.new 3 result }
     {

@@ -69,7 +69,13 @@ impl Asked {
     {
         let framing = self.framing_by(head, status);
         let fields = head.fields.as_slice();
-        answer_head(alloc, code_by(head, status), reason_by(head, status), fields, framing)
+        answer_head(
+            alloc,
+            code_by(head, status),
+            reason_by(head, status),
+            fields,
+            framing,
+        )
     }
 
     /// Whether the client gets no body.

@@ -114,11 +114,7 @@ impl Passing {
     }
 
     /// Puts a part that the talk gave.
-    fn put<'h, L: Link, D: Dial, C: Clock>(
-        self,
-        live: &mut Live<'h, L, D, C>,
-        part: Body,
-    ) -> Step
+    fn put<'h, L: Link, D: Dial, C: Clock>(self, live: &mut Live<'h, L, D, C>, part: Body) -> Step
         requires told { HasGiven live.old self part }
         ensures steps { StepsTo live.old live.new self.passed.chunked result }
     {

@@ -39,10 +39,7 @@ impl ReadingHead {
 }
 
 /// Goes on behind a head.
-fn routed<'h, L: Link, D: Dial, C: Clock>(
-    live: &mut Live<'h, L, D, C>,
-    intake: BodyIntake,
-) -> Next
+fn routed<'h, L: Link, D: Dial, C: Clock>(live: &mut Live<'h, L, D, C>, intake: BodyIntake) -> Next
     requires told { IsHeadedAt live.old intake }
     ensures leads { Leads live.old live.new 5 result }
 {

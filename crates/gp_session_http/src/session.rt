@@ -85,10 +85,7 @@ impl<'h, L: Link, D: Dial, C: Clock> Model for HttpSession<'h, L, D, C> {
 type Left<L, D, C> = (Outcome, Devices<L, D, C>);
 
 /// What the ends of a session leave. It attached no hold, and published nothing.
-fn left<'h, L: Link, D: Dial, C: Clock>(
-    live: Live<'h, L, D, C>,
-    ended: Ended,
-) -> Left<L, D, C>
+fn left<'h, L: Link, D: Dial, C: Clock>(live: Live<'h, L, D, C>, ended: Ended) -> Left<L, D, C>
     requires { Finishes live ended }
     ensures { Leaves live.entry result.0 result.1 }
 {

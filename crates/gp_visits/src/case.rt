@@ -1,3 +1,4 @@
+use crate::http::{Origin, visit_http};
 use crate::shown::{show_taken, show_visit};
 use crate::visit::{attach_news, enter, take};
 use gp_escapes::unescaped;
@@ -14,6 +15,9 @@ const ROOM: usize = 10_000;
 /// Its lines are `| TEXT`, more of the input; `reads N TURN` and `writes N TURN`, so many turns, each a number of bytes, `wait` or `fail`;
 /// `hold`, for a reliable hold on `news` at `a` that another pass attaches before, and takes from behind each visit; and `again`, for
 /// another visit with the same input.
+///
+/// With a line `routes TEXT`, a routes file, the client is one of HTTP, and then `key TEXT` is the key of tokens, `answer TEXT` more of what
+/// the origin of the first talk answers, and `connects N TURN`, `receives N TURN` and `asks N TURN` are turns of the dialer's calls.
 #[derive(Drop)]
 pub struct Case {
     alloc: Global,
@@ -22,6 +26,7 @@ pub struct Case {
     writes: Vec<Turn>,
     hold: bool,
     visits: usize,
+    origin: Option<Origin>,
 }
 
 /// Adds turns of one kind, as `N TURN` says.
@@ -38,6 +43,26 @@ fn push_turns(turns: &mut Vec<Turn>, text: &str) -> Result<(), AllocError> {
     Ok(())
 }
 
+/// Reads one line of what is said of origins. It says whether it is one.
+fn add_origin(
+    alloc: Global,
+    origin: &mut Origin,
+    kind: &str,
+    rest: &str,
+) -> Result<bool, AllocError> {
+    match kind {
+        "key" => origin.key = Some(Body::new(alloc, rest.as_bytes())?),
+        "answer" => origin
+            .answer
+            .extend_from_slice(unescaped(alloc, rest)?.as_slice())?,
+        "connects" => push_turns(&mut origin.connects, rest)?,
+        "receives" => push_turns(&mut origin.reads, rest)?,
+        "asks" => push_turns(&mut origin.writes, rest)?,
+        _ => return Ok(false),
+    }
+    Ok(true)
+}
+
 impl Case {
     /// A visit of a client that sends nothing, over a link that is always ready.
     pub fn new(alloc: Global) -> Case {
@@ -48,6 +73,7 @@ impl Case {
             writes: Vec::new(alloc),
             hold: false,
             visits: 1,
+            origin: None,
         }
     }
 
@@ -61,8 +87,18 @@ impl Case {
             "reads" => push_turns(&mut self.reads, rest)?,
             "writes" => push_turns(&mut self.writes, rest)?,
             "hold" => self.hold = true,
+            "routes" => {
+                let mut origin = Origin::new(self.alloc);
+                origin.routes = unescaped(self.alloc, rest)?;
+                self.origin = Some(origin);
+            }
             "again" => self.visits = self.visits.saturating_add(1),
-            _ => return Ok(false),
+            _ => {
+                return match &mut self.origin {
+                    Some(origin) => add_origin(self.alloc, origin, kind, rest),
+                    None => Ok(false),
+                };
+            }
         }
         Ok(true)
     }
@@ -79,6 +115,10 @@ impl Case {
         let alloc = self.alloc;
         let mut text = String::new(alloc);
         let (hub, mut first) = Hub::new(alloc)?;
+        let link = self.link()?;
+        if let Some(origin) = self.origin {
+            return visit_http(alloc, &hub, &mut first, origin, link);
+        }
         let hold = if self.hold {
             attach_news(alloc, &hub, &mut first)?
         } else {

@@ -1,12 +1,14 @@
-//! The rows that whole visits of publishers are tested by: what a client sends over a link in memory, and what a session answers.
+//! The rows that whole visits of publishers and of clients of HTTP are tested by: what a client sends over a link in memory, what its
+//! origin answers, and what a session answers and asks.
 //!
 //! Standard input has the cases, and the stored output what each of them must write, which was worked out by hand from the rules of
 //! docs/PROTOCOL.md. A line `# TITLE` begins a case, and `case.rt` has its other lines. `gp_escapes` says how texts are escaped. So a new row
-//! is two pieces of text, and there is nothing to prove of it. It stands on `gp_session_publish`, on the hub, and on the links in memory of
-//! `gp_outside`.
+//! is two pieces of text, and there is nothing to prove of it. It stands on `gp_session_publish` and `gp_session_http`, on the hub, and on
+//! the devices in memory of `gp_outside`.
 #![tactic(auto)]
 
 mod case;
+mod http;
 mod shown;
 mod visit;
 

@@ -44,5 +44,5 @@ returns-in-Failed g c =
     let text = passed_text s.passed told.parts None in
     let moved = moved_again v (with_wire v w) (with_line (with_wire v w) l) (moved_flush v w flushed.Failed c.in-Failed.ensures) (moved_line (with_wire v w) l e.moved) in
     let rows = polled (with_wire v w) l (asked_of s.passed) x x (speaking (said x told.given)) (hung (said x told.given)) text e.moved refl (e.row [] told.given)
-        (flushed_on v w flushed.Failed c.in-Failed.ensures (asked_of s.passed) x (speaking (said x told.given)) text (passing_rows v s told)) in
+    (flushed_on v w flushed.Failed c.in-Failed.ensures (asked_of s.passed) x (speaking (said x told.given)) text (passing_rows v s told)) in
     record { steps = from_live v c.args.live.now _ 2 _ c.live.view_is (passing_gone v w l s told c.in-Failed.ensures moved rows c.end_with.result c.end_with.ensures) }
