@@ -1,5 +1,5 @@
 -- What a client's session leaves is what a maker says of it.
-use Rattle.std.proofs.Common.{◌≡◌, ℕ, ◌<◌, ◌==◌, true, List, [], ◌∷◌, map, filter, length, Option, Some, None, IfSome, refl, sym, ap, ◌∙◌, subst}
+use Rattle.std.proofs.Common.{◌≡◌, ℕ, ◌<◌, ◌==◌, true, [], map, filter, Option, Some, IfSome, refl, sym, ap, ◌∙◌, subst}
 use Rattle.std.specs.List.{All, count_by}
 use Rattle.std.proofs.lemmas.List.Elements.{All-nil}
 use Rattle.atomic_table.specs.Seated.{TableId}
@@ -11,7 +11,6 @@ use Rattle.gp_outside.specs.Links.{LinkTells}
 use Rattle.gp_outside.specs.Unused.{IsUnusedDial, IsUnusedLink}
 use Rattle.gp_turn.specs.Passes.{range, ranges_of, times_in}
 use Rattle.gp_hub.specs.Passes.{HubView}
-use Rattle.gp_hub.specs.Own.{mine}
 use Rattle.gp_session_http.specs.Polls.{DevicesView, SessionView, new_session}
 use Rattle.gp_workers.specs.declared.maker.Finished.{Finished}
 use Rattle.gp_workers.specs.Makers.{IsGiven, IsUnused, numbers}
@@ -33,11 +32,11 @@ module _ {L D C : Type 0} (links : L → LinkTells) (dials : D → DialTells) (c
       let number : over.outcome.pass.number ≡ first = ap (λ (p : HubView). p.number) is ∙ same.number in
       let one = all_apart seat u.spare u.fresh stays.seat in
       let none : owned r over.outcome.pass.seen ≡ [] =
-          ap (λ (p : HubView). owned r p.seen) is ∙ owned_shares r first seat.pass.seen one ∙ ap (λ (n : ℕ). shares n seat.pass.seen) (sym same.number) ∙ stays.holds in
+      ap (λ (p : HubView). owned r p.seen) is ∙ owned_shares r first seat.pass.seen one ∙ ap (λ (n : ℕ). shares n seat.pass.seen) (sym same.number) ∙ stays.holds in
       let count : published_by r over.outcome.pass.seen ≡ 0 =
-          ap (λ (p : HubView). published_by r p.seen) is ∙ published_mine r first seat.pass.seen one
-          ∙ ap (λ (n : ℕ). count_by publishes (filter (λ (e : Entry). e.who == n) seat.pass.seen)) (sym same.number)
-          ∙ ap (count_by publishes) stays.entries in
+      ap (λ (p : HubView). published_by r p.seen) is ∙ published_mine r first seat.pass.seen one
+      ∙ ap (λ (n : ℕ). count_by publishes (filter (λ (e : Entry). e.who == n) seat.pass.seen)) (sym same.number)
+      ∙ ap (count_by publishes) stays.entries in
       record {
         turn = ap (λ (p : HubView). p.turn) is ∙ same.turn ∙ u.turn;
         number = number;

@@ -1,5 +1,5 @@
 -- What a publisher's session leaves is what a maker says of it.
-use Rattle.std.proofs.Common.{◌≡◌, ℕ, ◌<◌, ◌==◌, true, List, [], ◌∷◌, map, filter, length, refl, sym, ap, ◌∙◌, arith, subst, Some, None, Option, IfSome}
+use Rattle.std.proofs.Common.{◌≡◌, ℕ, ◌<◌, ◌==◌, true, List, [], ◌∷◌, map, filter, length, refl, sym, ap, ◌∙◌, arith, subst, Some, Option, IfSome}
 use Rattle.std.specs.List.{All, count_by}
 use Rattle.std.proofs.lemmas.List.Elements.{All-nil}
 use Rattle.atomic_table.specs.Seated.{TableId}

@@ -11,3 +11,5 @@ pub mod Commands
 pub mod ReportTexts
 pub mod Serves
 pub mod RoutesRead
+pub mod Servings
+pub mod Runs

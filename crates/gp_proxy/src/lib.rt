@@ -5,6 +5,7 @@
 //! It stands on the registry, on the texts of `gp_script`, and on files and a sink that it is lent.
 #![tactic(auto)]
 
+mod command;
 mod lent;
 mod log;
 mod logs;
@@ -15,9 +16,13 @@ mod report;
 mod routes;
 mod script;
 mod status;
+mod serve;
 mod server;
 mod words;
 
+pub use command::run;
 pub use gp_registry::Registry;
+pub use options::Options;
 pub use replays::replay;
+pub use serve::serve;
 pub use status::Status;
