@@ -5,5 +5,5 @@ pub mod Noting
 pub mod Plays
 pub mod Saying
 pub mod Handing
-pub mod Serving
+pub mod Leaving
 pub mod Asking

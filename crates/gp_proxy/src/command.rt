@@ -5,7 +5,7 @@ ghost use Rattle.gp_proxy.specs.Runs.{RunSays};
 ghost use Rattle.gp_proxy.specs.Words.{command_of};
 
 use crate::lent::replay_on;
-use crate::serve::serve;
+use crate::serving::serve;
 use crate::status::Status;
 use crate::words::{Command, command_in};
 use gp_outside::World;

@@ -16,7 +16,7 @@ mod report;
 mod routes;
 mod script;
 mod status;
-mod serve;
+mod serving;
 mod server;
 mod words;
 
@@ -24,5 +24,5 @@ pub use command::run;
 pub use gp_registry::Registry;
 pub use options::Options;
 pub use replays::replay;
-pub use serve::serve;
+pub use serving::serve;
 pub use status::Status;

@@ -1,4 +1,4 @@
-use Rattle.gp_proxy.proofs.Serving.{served}
+use Rattle.gp_proxy.proofs.Leaving.{served}
 use Rattle.gp_proxy.proofs.server.run_workers.Goals as goal
 
 pub returns-in-Ok-work : goal.returns-in-Ok-work
