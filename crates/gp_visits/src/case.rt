@@ -110,15 +110,26 @@ impl Case {
         MemLink::new(self.alloc, input, ROOM, reads, writes)
     }
 
+    /// What the visit of a client of HTTP gives.
+    fn play_http(self) -> Result<String, AllocError> {
+        let alloc = self.alloc;
+        let link = self.link()?;
+        let origin = match self.origin {
+            Some(origin) => origin,
+            None => Origin::new(alloc),
+        };
+        let (hub, mut first) = Hub::new(alloc)?;
+        visit_http(alloc, &hub, &mut first, origin, link)
+    }
+
     /// What each visit gives, and what the hold takes behind it.
     pub fn play(self) -> Result<String, AllocError> {
+        if self.origin.is_some() {
+            return self.play_http();
+        }
         let alloc = self.alloc;
         let mut text = String::new(alloc);
         let (hub, mut first) = Hub::new(alloc)?;
-        let link = self.link()?;
-        if let Some(origin) = self.origin {
-            return visit_http(alloc, &hub, &mut first, origin, link);
-        }
         let hold = if self.hold {
             attach_news(alloc, &hub, &mut first)?
         } else {
