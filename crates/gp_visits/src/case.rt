@@ -26,7 +26,8 @@ pub struct Case {
     writes: Vec<Turn>,
     hold: bool,
     visits: usize,
-    origin: Option<Origin>,
+    http: bool,
+    origin: Origin,
 }
 
 /// Adds turns of one kind, as `N TURN` says.
@@ -73,7 +74,8 @@ impl Case {
             writes: Vec::new(alloc),
             hold: false,
             visits: 1,
-            origin: None,
+            http: false,
+            origin: Origin::new(alloc),
         }
     }
 
@@ -88,16 +90,12 @@ impl Case {
             "writes" => push_turns(&mut self.writes, rest)?,
             "hold" => self.hold = true,
             "routes" => {
-                let mut origin = Origin::new(self.alloc);
-                origin.routes = unescaped(self.alloc, rest)?;
-                self.origin = Some(origin);
+                self.http = true;
+                self.origin.routes = unescaped(self.alloc, rest)?;
             }
             "again" => self.visits = self.visits.saturating_add(1),
             _ => {
-                return match &mut self.origin {
-                    Some(origin) => add_origin(self.alloc, origin, kind, rest),
-                    None => Ok(false),
-                };
+                return add_origin(self.alloc, &mut self.origin, kind, rest);
             }
         }
         Ok(true)
@@ -110,15 +108,22 @@ impl Case {
         MemLink::new(self.alloc, input, ROOM, reads, writes)
     }
 
+    /// What the visit of a client of HTTP gives.
+    fn play_http(self) -> Result<String, AllocError> {
+        let alloc = self.alloc;
+        let link = self.link()?;
+        let (hub, mut first) = Hub::new(alloc)?;
+        visit_http(alloc, &hub, &mut first, self.origin, link)
+    }
+
     /// What each visit gives, and what the hold takes behind it.
     pub fn play(self) -> Result<String, AllocError> {
+        if self.http {
+            return self.play_http();
+        }
         let alloc = self.alloc;
         let mut text = String::new(alloc);
         let (hub, mut first) = Hub::new(alloc)?;
-        let link = self.link()?;
-        if let Some(origin) = self.origin {
-            return visit_http(alloc, &hub, &mut first, origin, link);
-        }
         let hold = if self.hold {
             attach_news(alloc, &hub, &mut first)?
         } else {

@@ -51,7 +51,9 @@ struct HttpVisit {
 }
 
 /// Polls a session to its end.
-fn poll_on<'h, L: Link, D: Dial, C: Clock>(session: &mut HttpSession<'h, L, D, C>) -> Option<Outcome>
+fn poll_on<'h, L: Link, D: Dial, C: Clock>(
+    session: &mut HttpSession<'h, L, D, C>,
+) -> Option<Outcome>
     requires { HasEnded session.old → ⊥ }
 {
     for _poll in 0..POLLS {
