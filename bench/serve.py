@@ -10,9 +10,9 @@ PROGRAM is the path of the built program. It starts a small origin of its own, w
 - publish requests to a server, each with one item.
 
 Each request has a connection of its own, of which so many are open at once. The clients and the origin are processes of their own, and share the
-processors with the server. Of a server the processor time for one request and the peak of its memory are told too, which depend less on what else runs. The server of each
-count is started anew and ends by itself behind the last request; a count fails unless every response is the wanted one, the server ends with
-status 0 and its report has a line for each request. The figures are those of the round with the most requests a second.
+processors with the server. Of a server the processor time for one request and the peak of its memory are told too, which depend less on what else
+runs. The server of each count is started anew, and ends by itself behind the last request. A count fails unless every response is the wanted one,
+the server ends with status 0, and its report has a line for each request. The figures are those of the round with the most requests a second.
 """
 
 import argparse
@@ -26,7 +26,7 @@ import tempfile
 import time
 import traceback
 
-MOST = 300
+MOST = 900
 ANSWER = b"HTTP/1.1 200 OK\r\ncontent-type: text/plain\r\ncontent-length: 100\r\nconnection: close\r\n\r\n" + b"x" * 99 + b"\n"
 PLAIN = b"GET /page HTTP/1.1\r\nhost: bench\r\nuser-agent: bench\r\naccept: */*\r\n\r\n"
 RUNNING = []
