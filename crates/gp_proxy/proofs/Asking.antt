@@ -9,6 +9,6 @@ one_option f [] name value place asked now long first second is = absurd (omega 
 one_option f (x ∷ []) name value place asked now long first second is = absurd (omega arith)
 one_option f (x ∷ y ∷ rest) name value place asked now long first second is =
     let here : option_with place asked (free_choice (f x) asked) (f y) ≡ Ok now =
-        sym (ap (λ s. option_with place asked (free_choice (f s) asked) (f value)) first ∙ ap (λ s. option_with place asked (free_choice (f x) asked) (f s)) second) ∙ is in
+    sym (ap (λ s. option_with place asked (free_choice (f s) asked) (f value)) first ∙ ap (λ s. option_with place asked (free_choice (f x) asked) (f s)) second) ∙ is in
     ap (λ ws. asked_by (behind place 2) (map f ws) now) (take_all (length (x ∷ y ∷ rest) - 2) rest (omega arith))
     ∙ sym (ap (λ r. result_then (λ (now : Asked). asked_by (behind place 2) (map f rest) now) r) here)

@@ -11,7 +11,12 @@ use gp_registry::Registry;
 use std::alloc::Global;
 
 /// Replays the script at a path on an empty registry, with the files and the sink of a world.
-pub fn replay_on<W: World>(alloc: Global, path: &str, registry: &mut Registry, world: &mut W) -> Status
+pub fn replay_on<W: World>(
+    alloc: Global,
+    path: &str,
+    registry: &mut Registry,
+    world: &mut W,
+) -> Status
     requires { StandsFor registry.old [] }
     ensures says { Says result (record { content = W.Files.content (W.parts world.old).files path.now; file_faults = W.Files.faults (W.parts world.old).files; file_faults_after = W.Files.faults (W.parts world.new).files; sink = W.Out.tells (W.parts world.old).out; sink_after = W.Out.tells (W.parts world.new).out; stands = registry.new }) }
     ensures same { W.parts world.new ≡ record (W.parts world.old) { files = (W.parts world.new).files; out = (W.parts world.new).out } }

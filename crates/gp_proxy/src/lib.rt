@@ -15,9 +15,9 @@ mod replays;
 mod report;
 mod routes;
 mod script;
-mod status;
-mod serving;
 mod server;
+mod serving;
+mod status;
 mod words;
 
 pub use command::run;

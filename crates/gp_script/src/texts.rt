@@ -280,11 +280,7 @@ pub fn write_report(alloc: Global, report: &HoldReport) -> Result<Body, AllocErr
 
 /// Adds the line of a hold's report, with its line feed, to a text, in place. Where memory is wanting the text is left
 /// empty.
-pub fn add_report(
-    alloc: Global,
-    text: &mut String,
-    report: &HoldReport,
-) -> Result<(), AllocError>
+pub fn add_report(alloc: Global, text: &mut String, report: &HoldReport) -> Result<(), AllocError>
     ensures ok { OnOk result (string_bytes text.new ≡ string_bytes text.old ++ report_text report.now) }
     ensures err { OnErr result (string_bytes text.new ≡ []) }
 {

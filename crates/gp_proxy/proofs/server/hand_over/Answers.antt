@@ -18,8 +18,7 @@ pub loop-kit-preserved : goal.loop-kit-preserved
 loop-kit-preserved g c =
     let some = c.loop-kit.invariant.0 in
     let kit = c.in-Some.kit in
-    let split = first_rest c.loop-kit.kits kit c.in-Some.ensures.first ∙ ap (λ rest. kit ∷ rest) (sym c.in-Some.ensures.left) in
-    (
+    let split = first_rest c.loop-kit.kits kit c.in-Some.ensures.first ∙ ap (λ rest. kit ∷ rest) (sym c.in-Some.ensures.left) in (
       some ++ kit ∷ [],
       c.loop-kit.invariant.1 ∙ ap (λ rest. some ++ rest) split ∙ sym (append_assoc some (kit ∷ []) c.take_first.new.self),
       c.in-Ok.ensures.ok ∙ ap (λ world. with_kit world kit) c.loop-kit.invariant.2 ∙ one_more_kit (g.W.World.parts c.args.world.now) some kit,
