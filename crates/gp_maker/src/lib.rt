@@ -6,10 +6,8 @@
 
 mod client;
 mod publisher;
-mod serve;
 mod server;
 
 pub use client::Serving;
 pub use publisher::Publishing;
-pub use serve::serve_all;
 pub use server::Server;

@@ -1,9 +1,5 @@
-pub mod Numbers
 pub mod Lists
 pub mod Lines
 pub mod Noting
 pub mod Plays
 pub mod Saying
-pub mod Handing
-pub mod Leaving
-pub mod Asking

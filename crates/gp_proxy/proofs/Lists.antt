@@ -1,5 +1,5 @@
 -- Lists that are read place by place, or from their front.
-use Rattle.std.proofs.Common.{◌≡◌, ℕ, zero, suc, ◌<◌, ◌≤◌, get_or, Result, Ok, Err, List, [], ◌∷◌, ◌++◌, length, take, drop, slice_get, Option, Some, None, unwrap_or, refl, sym, ap, ◌∙◌, arith, append_assoc}
+use Rattle.std.proofs.Common.{◌≡◌, ℕ, zero, suc, ◌<◌, ◌≤◌, get_or, Result, Ok, Err, List, [], ◌∷◌, ◌++◌, length, take, drop, slice_get, Option, Some, None, refl, sym, ap, ◌∙◌, arith, append_assoc}
 use Rattle.std.specs.List.{flat_map}
 use Rattle.std.specs.Result.{OnOk}
 use Rattle.std.proofs.Math.ListN.{set}
@@ -22,12 +22,9 @@ nil_right : (xs : List ℕ) → xs ++ [] ≡ xs
 nil_right [] = refl
 nil_right (x ∷ xs) = ap (λ ys. x ∷ ys) (nil_right xs)
 
-some_same : {T : Type 0} (y x : T) → Some y ≡ Some x → y ≡ x
-some_same y x e = ap (λ o. unwrap_or o y) e
-
-pub flat_map_more : {T : Type 0} (f : T → List ℕ) (xs : List T) (i : ℕ) (x : T) → slice_get xs i ≡ Some x → flat_map f (take (suc i) xs) ≡ flat_map f (take i xs) ++ f x
+pub flat_map_more : (f : Piece → List ℕ) (xs : List Piece) (i : ℕ) (x : Piece) → slice_get xs i ≡ Some x → flat_map f (take (suc i) xs) ≡ flat_map f (take i xs) ++ f x
 flat_map_more f [] i x e = absurd_some e
-flat_map_more f (y ∷ ys) zero x e = nil_right (f y) ∙ ap f (some_same y x e)
+flat_map_more f (y ∷ ys) zero x e = let same : y ≡ x = cc e in nil_right (f y) ∙ ap f same
 flat_map_more f (y ∷ ys) (suc i) x e = ap (λ b. f y ++ b) (flat_map_more f ys i x e) ∙ sym (append_assoc (f y) (flat_map f (take i ys)) (f x))
 
 pub position_more : (start : List ℕ) (xs : List Piece) (i : ℕ) (x : Piece) → slice_get xs i ≡ Some x → position_after start (take (suc i) xs) ≡ moved (position_after start (take i xs)) x
@@ -36,11 +33,11 @@ position_more start (y ∷ ys) zero x e = let same : y ≡ x = cc e in ap (moved
 position_more start (y ∷ ys) (suc i) x e = position_more (moved start y) ys i x e
 
 -- the first item, and the rest
-pub first_rest : {T : Type 0} (xs : List T) (x : T) → Some x ≡ slice_get xs 0 → xs ≡ x ∷ drop 1 xs
+pub first_rest : (xs : List Piece) (x : Piece) → Some x ≡ slice_get xs 0 → xs ≡ x ∷ drop 1 xs
 first_rest [] x e = absurd_some (sym e)
-first_rest (y ∷ ys) x e = ap (λ z. z ∷ ys) (some_same y x (sym e))
+first_rest (y ∷ ys) x e = let same : x ≡ y = cc e in ap (λ z. z ∷ ys) (sym same)
 
-pub none_left : {T : Type 0} (xs : List T) → None ≡ slice_get xs 0 → xs ≡ []
+pub none_left : (xs : List Piece) → None ≡ slice_get xs 0 → xs ≡ []
 none_left [] e = refl
 none_left (y ∷ ys) e = absurd_some e
 

@@ -6,11 +6,11 @@ use Rattle.gp_plain.specs.Standing.{Standing, StandsFor}
 use Rattle.gp_plain.specs.Chain.{ChainLaw}
 use Rattle.gp_outside.specs.Counts.{grown}
 use Rattle.gp_outside.specs.Devices.{SinkTells, WroteAll, WrotePart}
-use Rattle.gp_outside.specs.Worlds.{WorldParts}
 use Rattle.gp_proxy.specs.Scripts.{entries_of}
 use Rattle.gp_proxy.specs.Outputs.{output}
 use Rattle.gp_proxy.specs.Loads.{IsLoaded, IsNotLoaded}
 use Rattle.gp_proxy.specs.Replays.{Play, Says, load_of}
+use Rattle.gp_proxy.specs.Runs.{RunSays}
 use Rattle.gp_proxy.specs.declared.status.Status.{Status}
 use Rattle.gp_proxy.specs.declared.status.Status.TheVariants.{Done, Usage, FileFault, TooLong, BadLine, SinkFault, ListenFault, NoMemory}
 
@@ -60,21 +60,16 @@ abbrev pub play_at : Option (List ℕ) → ℕ → ℕ → SinkTells → SinkTel
 play_at content before after was now stands = record { content = content; file_faults = before; file_faults_after = after; sink = was; sink_after = now; stands = stands }
 
 -- what is said of the devices is said of the world that lent them
-pub lent : (status : Status) (content content' : Option (List ℕ)) (before before' after after' : ℕ) (was was' now now' : SinkTells) (stands : Standing)
-    → content ≡ content' → before ≡ before' → after ≡ after' → was ≡ was' → now ≡ now'
-    → Says status (play_at content before after was now stands) → Says status (play_at content' before' after' was' now' stands)
-lent status content content' before before' after after' was was' now now' stands c b a w n said =
+pub lent : (status : Status) (usage : Option ℕ) (content content' : Option (List ℕ)) (before before' after after' : ℕ) (was was' now now' : SinkTells) (stands : Standing)
+    → usage ≡ None → content ≡ content' → before ≡ before' → after ≡ after' → was ≡ was' → now ≡ now'
+    → Says status (play_at content before after was now stands) → RunSays usage status (play_at content' before' after' was' now' stands)
+lent status usage content content' before before' after after' was was' now now' stands good c b a w n said =
     let one = subst (λ x. Says status (play_at x before after was now stands)) c said in
     let two = subst (λ x. Says status (play_at content' x after was now stands)) b one in
     let three = subst (λ x. Says status (play_at content' before' x was now stands)) a two in
     let four = subst (λ x. Says status (play_at content' before' after' x now stands)) w three in
-    subst (λ x. Says status (play_at content' before' after' was' x stands)) n four
+    let five = subst (λ x. Says status (play_at content' before' after' was' x stands)) n four in
+    subst (λ u. RunSays u status (play_at content' before' after' was' now' stands)) (sym good) five
 
-module _ {F O C K : Type 0} where
-  -- the files were lent, and then perhaps the sink
-  pub same_files : (before now : WorldParts F O C K) (files : F) → now ≡ record before { files = files } → now ≡ record before { files = now.files; out = now.out }
-  same_files before now files is = subst (λ (w : WorldParts F O C K). w ≡ record before { files = w.files; out = w.out }) (sym is) refl
-
-  pub same_both : (before mid now : WorldParts F O C K) (files : F) (out : O) → mid ≡ record before { files = files } → now ≡ record mid { out = out } → now ≡ record before { files = now.files; out = now.out }
-  same_both before mid now files out first then =
-      subst (λ (w : WorldParts F O C K). w ≡ record before { files = w.files; out = w.out }) (sym (then ∙ ap (λ (w : WorldParts F O C K). record w { out = out }) first)) refl
+pub faulty : (usage : Option ℕ) (place : ℕ) (play : Play) → usage ≡ Some place → play.file_faults_after ≡ play.file_faults → play.sink_after ≡ play.sink → StandsFor play.stands [] → RunSays usage (Usage place) play
+faulty usage place play is quiet sink stands = subst (λ u. RunSays u (Usage place) play) (sym is) (refl, record { untouched = record { sink = sink; stands = stands }; quiet = quiet })

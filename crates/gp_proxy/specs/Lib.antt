@@ -5,11 +5,5 @@ pub mod Outputs
 pub mod Replays
 pub mod Logs
 pub mod Loads
-pub mod Options
 pub mod Words
-pub mod Commands
-pub mod ReportTexts
-pub mod Serves
-pub mod RoutesRead
-pub mod Servings
 pub mod Runs

@@ -1,26 +1,21 @@
--- The grammar of the command line: `replay FILE`, or `serve ROUTES` and options.
-use Rattle.std.specs.Prelude.{ℕ, cond, List, [], ◌∷◌, Option, Some, None, codes, eqb, Result, Ok, Err}
+-- The grammar of the command line: `replay FILE`.
+use Rattle.std.specs.Prelude.{ℕ, cond, List, [], ◌∷◌, Option, Some, None, codes, eqb}
 use Rattle.std.specs.Cmp.Lexicographic.{pointwise}
-use Rattle.gp_proxy.specs.Options.{Asked, asked_by, nothing_asked, result_then}
-
--- what a command line asks for
-pub data Command : Type 0 where
-  Replay : List ℕ → Command
-  Serve : List ℕ → Asked → Command
 
 -- after `replay` comes one word, which may be any, and nothing more
-abbrev pub replay_of : List (List ℕ) → Result Command ℕ
-replay_of [] = Err 1
-replay_of (path ∷ []) = Ok (Replay path)
-replay_of (path ∷ extra ∷ words) = Err 2
+abbrev pub replay_usage : List (List ℕ) → Option ℕ
+replay_usage [] = Some 1
+replay_usage (path ∷ []) = None
+replay_usage (path ∷ extra ∷ words) = Some 2
 
--- after `serve` comes one word, which may be any, and then options
-abbrev pub serve_of : List (List ℕ) → Result Command ℕ
-serve_of [] = Err 1
-serve_of (path ∷ words) = result_then (λ (asked : Asked). Ok (Serve path asked)) (asked_by 2 words nothing_asked)
+-- the place of the first word after which no continuation is in the grammar, or the number of words where one is
+-- missing; none where the words are in the grammar
+abbrev pub usage_of : List (List ℕ) → Option ℕ
+usage_of [] = Some 0
+usage_of (first ∷ words) = cond (pointwise eqb first (codes "replay")) (replay_usage words) (Some 0)
 
--- what the words ask for, or the place of the first word after which no continuation is in the grammar, or the number
--- of words where one is missing
-abbrev pub command_of : List (List ℕ) → Result Command ℕ
-command_of [] = Err 0
-command_of (first ∷ words) = cond (pointwise eqb first (codes "replay")) (replay_of words) (cond (pointwise eqb first (codes "serve")) (serve_of words) (Err 0))
+-- the path of a command line in the grammar
+abbrev pub path_of : List (List ℕ) → List ℕ
+path_of [] = []
+path_of (first ∷ []) = []
+path_of (first ∷ path ∷ words) = path

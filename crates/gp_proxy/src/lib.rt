@@ -6,23 +6,15 @@
 #![tactic(auto)]
 
 mod command;
-mod lent;
 mod log;
 mod logs;
-mod options;
 mod play;
 mod replays;
-mod report;
-mod routes;
 mod script;
-mod server;
-mod serving;
 mod status;
 mod words;
 
 pub use command::run;
 pub use gp_registry::Registry;
-pub use options::Options;
 pub use replays::replay;
-pub use serving::serve;
 pub use status::Status;

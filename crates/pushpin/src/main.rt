@@ -39,7 +39,7 @@ fn play(rt: &HostRuntime) -> Status {
     }
     let mut registry = Registry::new(rt.alloc());
     let mut world = NetWorld::new(rt.alloc(), *rt, io::writer(rt));
-    run(rt, rt.alloc(), words.as_slice(), &mut registry, &mut world)
+    run(rt.alloc(), words.as_slice(), &mut registry, &mut world)
 }
 
 fn main(rt: HostRuntime) -> ExitCode {

@@ -1,6 +1,0 @@
-use Rattle.std.proofs.Common.{string_bytes, ◌≡◌, take}
-use Rattle.gp_proxy.specs.ReportTexts.{workers_text}
-use Rattle.gp_proxy.proofs.report.report_of.Given as goal
-
-abbrev pub invariant-loop-worker : goal.invariant-loop-worker
-invariant-loop-worker l = string_bytes l.text ≡ workers_text (take l.worker-index l.workers)

@@ -1,0 +1,7 @@
+use Rattle.std.proofs.Common.{string_bytes, ◌≡◌, ◌++◌, take}
+use Rattle.std.specs.List.{flat_map}
+use Rattle.gp_serve.specs.ReportTexts.{session_text}
+use Rattle.gp_serve.proofs.report.add_worker.Given as goal
+
+abbrev pub invariant-loop-place : goal.invariant-loop-place
+invariant-loop-place l = string_bytes l.text ≡ string_bytes l.initial.text ++ flat_map session_text (take l.place l.worker.sessions.items)
