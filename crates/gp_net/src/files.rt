@@ -1,5 +1,5 @@
 //! The files of the system.
-ghost use Rattle.std.specs.Prelude.{List, ℕ, None, IfOk, IfSome};
+ghost use Rattle.std.specs.Prelude.{◌≡◌, List, ℕ, None, IfOk, IfSome};
 ghost use Rattle.gp_outside.specs.Devices.{IsReadOf};
 
 use gp_outside::{FileRead, Files};
@@ -40,7 +40,9 @@ fn read_all<R: Read>(alloc: Global, reader: &mut R) -> io::Result<FileRead>
 
 impl<R: fs::Files + Drop> NetFiles<R> {
     /// The files of the system, without a fault so far.
-    pub fn new(alloc: Global, system: R) -> NetFiles<R> {
+    pub fn new(alloc: Global, system: R) -> NetFiles<R>
+        ensures { result.faults ≡ 0 }
+    {
         NetFiles {
             alloc,
             system,

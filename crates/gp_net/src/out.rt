@@ -1,5 +1,5 @@
 //! A sink over a writer of the system, such as standard output.
-ghost use Rattle.std.specs.Prelude.{None};
+ghost use Rattle.std.specs.Prelude.{◌≡◌, None};
 
 use gp_outside::{Out, Written};
 use std::io::Write;
@@ -13,7 +13,9 @@ pub struct NetOut<W: Write + Drop> {
 
 impl<W: Write + Drop> NetOut<W> {
     /// A sink over a writer, without a fault so far.
-    pub fn new(inner: W) -> NetOut<W> {
+    pub fn new(inner: W) -> NetOut<W>
+        ensures { result.faults ≡ 0 }
+    {
         NetOut { inner, faults: 0 }
     }
 }

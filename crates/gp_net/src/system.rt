@@ -28,8 +28,11 @@ pub struct NetWorld<R: Files + Net + time::Clock + Copy + Drop, W: Write + Drop>
 }
 
 impl<R: Files + Net + time::Clock + Copy + Drop, W: Write + Drop> NetWorld<R, W> {
-    /// The system, with a writer as its sink.
-    pub fn new(alloc: Global, system: R, out: W) -> NetWorld<R, W> {
+    /// The system, with a writer as its sink. Nothing was counted yet.
+    pub fn new(alloc: Global, system: R, out: W) -> NetWorld<R, W>
+        ensures devices { (result.files.faults ≡ 0) × (result.out.faults ≡ 0) × (result.clock ≡ record { calls = 0; last = 0 }) }
+        ensures quiet { result.faults ≡ 0 }
+    {
         NetWorld {
             alloc,
             system,

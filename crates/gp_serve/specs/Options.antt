@@ -26,10 +26,11 @@ ranged most word = cond (is_numeral word && nat_le (digits_value 10 word) most) 
 abbrev pub key_of : List ℕ → Option (List ℕ)
 key_of word = cond (not (has_none word) && nat_le (length word) 255) (Some word) None
 
--- the option that a word names
+-- the word is this text
 abbrev pub is_text : List ℕ → List ℕ → Bool
 is_text word text = pointwise eqb word text
 
+-- the option that a word names
 abbrev pub choice_of : List ℕ → Option Choice
 choice_of word =
     cond (is_text word (codes "--workers")) (Some Workers)
@@ -72,6 +73,7 @@ abbrev pub option_alone : ℕ → Option Choice → ℕ
 option_alone place None = place
 option_alone place (Some choice) = behind place 1
 
+-- what comes of a value, or the fault
 abbrev pub result_then : {T U E : Type 0} → (T → Result U E) → Result T E → Result U E
 result_then f (Ok x) = f x
 result_then f (Err e) = Err e
