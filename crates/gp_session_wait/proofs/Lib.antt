@@ -1,0 +1,9 @@
+pub mod Counting
+pub mod Taking
+pub mod Looking
+pub mod Hearing
+pub mod Beginning
+pub mod Laws
+pub mod Running
+pub mod Chains
+pub mod Published
