@@ -1,3 +1,4 @@
+pub mod Sent
 pub mod Owners
 pub mod Publishers
 pub mod Clients

@@ -5,6 +5,7 @@
 #![tactic(auto)]
 
 mod client;
+mod crossing;
 mod publisher;
 mod server;
 

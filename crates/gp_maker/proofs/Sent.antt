@@ -1,0 +1,174 @@
+use denote.RattleType.{RattleType}
+use denote.Ref.{NamedLft}
+use denote.Param.Send.{IsSend, view_send, sendable}
+use denote.Param.SendFields.{as_row_send, declared_send, variants_send}
+use Rattle.std.proofs.Crossing.{crosses}
+use Rattle.std.specs.contracts.snapshot.Snapshot as Snapshot
+use Rattle.gp_plain.specs.contracts.body.Body as Body
+use Rattle.gp_intake.specs.contracts.body.Whole as Whole
+use Rattle.gp_hub.specs.contracts.pass.HubPass as HubPass
+use Rattle.gp_hub.proofs.hub.Hub.TheSendSync.{the_sync}
+use Rattle.gp_hub.proofs.pass.HubPass.TheSendSync.{the_send}
+use Rattle.gp_outbox.proofs.outbox.Outbox.TheSendSync as outbox
+use Rattle.gp_outside.specs.declared.link.Link as link
+use Rattle.gp_session.specs.contracts.seat.Seat as Seat
+use Rattle.gp_session.specs.contracts.seat.Seat.TheInside as Inside
+use Rattle.gp_session.specs.contracts.wire.Wire as Wire
+use Rattle.gp_session.specs.contracts.wire.Wire.TheInside as WireInside
+use Rattle.gp_session_publish.proofs.cause.Cause.TheSendSync as cause
+use Rattle.gp_session_publish.proofs.publishing.ItemsLeft.TheSendSync as items
+use Rattle.gp_session_publish.proofs.reading_body.ReadingBody.TheSendSync as body
+use Rattle.gp_session_publish.proofs.reading_head.ReadingHead.TheSendSync as head
+use Rattle.gp_session_publish.specs.contracts.answering.Answering as Answering
+use Rattle.gp_session_publish.specs.contracts.publishing.Publishing as Publishing
+use Rattle.gp_session_publish.specs.contracts.refusing.Refusing as Refusing
+use Rattle.gp_session_publish.specs.contracts.live.Live as Live
+use Rattle.gp_session_publish.specs.contracts.live.Live.TheInside as LiveInside
+use Rattle.gp_session_publish.specs.contracts.session.Open as Open
+use Rattle.gp_session_publish.specs.contracts.session.Open.TheInside as OpenInside
+use Rattle.gp_session_publish.specs.contracts.stage.Stage as Stage
+use Rattle.gp_session_publish.specs.contracts.session.PublishSession as PublishSession
+use Rattle.gp_session_publish.specs.contracts.session.PublishSession.TheInside as SessionInside
+use Rattle.gp_plain.proofs.body.Body.TheSendSync as body_bytes
+use Rattle.gp_plain.proofs.http.Address.TheSendSync as address
+use Rattle.gp_plain.proofs.http.Signer.TheSendSync as signer
+use Rattle.gp_plain.proofs.reply.EndCause.TheSendSync as end_cause
+use Rattle.gp_plain.specs.contracts.http.Response as Response
+use Rattle.gp_body.proofs.reader.BodyReader.TheSendSync as reader
+use Rattle.gp_hub.proofs.outcome.Why.TheSendSync as why
+use Rattle.gp_routes.proofs.route.Routes.TheSendSync as routes
+use Rattle.gp_outside.specs.declared.dial.Dial as dial
+use Rattle.gp_outside.specs.declared.clock.Clock as clock
+use Rattle.gp_exchange.proofs.answer.Last.TheSendSync as last
+use Rattle.gp_exchange.proofs.heading.Heading.TheSendSync as heading
+use Rattle.gp_exchange.proofs.sending.Sending.TheSendSync as sending
+use Rattle.gp_exchange.specs.contracts.place.Asked as TalkAsked
+use Rattle.gp_exchange.specs.contracts.place.Asked.TheInside as TalkAskedInside
+use Rattle.gp_exchange.specs.contracts.place.Over as Over
+use Rattle.gp_exchange.specs.contracts.place.Place as Place
+use Rattle.gp_exchange.specs.contracts.reading.Reading as Reading
+use Rattle.gp_exchange.specs.contracts.exchange.Exchange as Exchange
+use Rattle.gp_exchange.specs.contracts.exchange.Exchange.TheInside as ExchangeInside
+use Rattle.gp_session.specs.contracts.line.Line as Line
+use Rattle.gp_session.specs.contracts.line.Line.TheInside as LineInside
+use Rattle.gp_session.specs.contracts.watch.Watch as Watch
+use Rattle.gp_session.specs.contracts.watch.Watch.TheInside as WatchInside
+use Rattle.gp_maker.specs.contracts.client.Serving as Serving
+use Rattle.gp_maker.specs.contracts.publisher.Publishing as Publisher
+use Rattle.gp_session_http.proofs.asked.Asked.TheSendSync as asked
+use Rattle.gp_session_http.proofs.cause.Cause.TheSendSync as http_cause
+use Rattle.gp_session_http.proofs.reading_body.ReadingBody.TheSendSync as http_body
+use Rattle.gp_session_http.proofs.reading_head.ReadingHead.TheSendSync as http_head
+use Rattle.gp_session_http.specs.contracts.asked.Asked as Asked
+use Rattle.gp_session_http.specs.contracts.asking.Asking as Asking
+use Rattle.gp_session_http.specs.contracts.failing.Failing as Failing
+use Rattle.gp_session_http.specs.contracts.finishing.Finishing as Finishing
+use Rattle.gp_session_http.specs.contracts.live.Live as HttpLive
+use Rattle.gp_session_http.specs.contracts.live.Live.TheInside as HttpLiveInside
+use Rattle.gp_session_http.specs.contracts.passed.Passed as Passed
+use Rattle.gp_session_http.specs.contracts.passing.Passing as Passing
+use Rattle.gp_session_http.specs.contracts.refusing.Refusing as HttpRefusing
+use Rattle.gp_session_http.specs.contracts.session.Devices as Devices
+use Rattle.gp_session_http.specs.contracts.session.Devices.TheInside as DevicesInside
+use Rattle.gp_session_http.specs.contracts.session.HttpSession as HttpSession
+use Rattle.gp_session_http.specs.contracts.session.HttpSession.TheInside as HttpInside
+use Rattle.gp_session_http.specs.contracts.session.Open as HttpOpen
+use Rattle.gp_session_http.specs.contracts.session.Open.TheInside as HttpOpenInside
+use Rattle.gp_session_http.specs.contracts.stage.Stage as HttpStage
+
+pub kept : (Y : RattleType) → IsSend (Snapshot.the_row Y)
+kept Y = search crosses depth 20
+
+pub inside_send : (ℓ : NamedLft) → IsSend (Inside.the_row ℓ)
+inside_send ℓ = declared_send (Inside.the_type ℓ) (search (the_sync, sendable) depth 20, (the_send, (kept HubPass.the_row, tt)))
+
+pub seat_send : (ℓ : NamedLft) → IsSend (Seat.the_row ℓ)
+seat_send ℓ = view_send _ _ _ _ _ (inside_send ℓ)
+
+pub answering_send : IsSend Answering.the_row
+answering_send = declared_send Answering.the_type (search sendable depth 20, (kept Whole.the_row, tt))
+
+pub publishing_send : IsSend Publishing.the_row
+publishing_send = declared_send Publishing.the_type (items.the_send, (search sendable depth 20, (kept Whole.the_row, tt)))
+
+pub refusing_send : IsSend Refusing.the_row
+refusing_send = declared_send Refusing.the_type (cause.the_send, (kept Body.the_row, tt))
+
+pub stage_send : IsSend Stage.the_row
+stage_send = variants_send Stage.enum ((head.the_send, tt), ((body.the_send, tt), ((publishing_send, tt), ((answering_send, tt), ((refusing_send, tt), tt)))))
+
+module _ (ℓ : NamedLft) (L : RattleType) (g : link.Ghosts L.Denot) (s : IsSend L) where
+  pub wire_send : IsSend (Wire.the_row L g)
+  wire_send = view_send _ _ _ _ _ (declared_send (WireInside.the_type L g) (search (s, sendable) depth 20, (kept L, (outbox.the_send, tt))))
+
+  pub live_send : IsSend (Live.the_row ℓ L g)
+  live_send = view_send _ _ _ _ _ (declared_send (LiveInside.the_type ℓ L g) (search crosses depth 20, (wire_send, (seat_send ℓ, tt))))
+
+  pub open_send : IsSend (Open.the_row ℓ L g)
+  open_send = view_send _ _ _ _ _ (declared_send (OpenInside.the_type ℓ L g) (live_send, (stage_send, tt)))
+
+  pub publish_send : IsSend (PublishSession.the_row ℓ L g)
+  publish_send = view_send _ _ _ _ _ (declared_send (SessionInside.the_type ℓ L g) (search (open_send, sendable) depth 20, (search (s, as_row_send, variants_send, sendable) depth 20, tt)))
+
+pub talk_asked_send : IsSend TalkAsked.the_row
+talk_asked_send = view_send _ _ _ _ _ (declared_send TalkAskedInside.the_type (address.the_send, (kept Body.the_row, (body_bytes.the_send, (search sendable depth 20, tt)))))
+
+pub reading_send : IsSend Reading.the_row
+reading_send = declared_send Reading.the_type (kept Response.the_row, (reader.the_send, (body_bytes.the_send, tt)))
+
+pub over_send : IsSend Over.the_row
+over_send = declared_send Over.the_type (last.the_send, (search sendable depth 20, (search (kept, sendable) depth 20, tt)))
+
+pub place_send : IsSend Place.the_row
+place_send = variants_send Place.enum ((body_bytes.the_send, tt), ((body_bytes.the_send, tt), ((sending.the_send, tt), ((heading.the_send, tt), ((reading_send, tt), ((over_send, tt), tt))))))
+
+pub exchange_send : IsSend Exchange.the_row
+exchange_send = view_send _ _ _ _ _ (declared_send ExchangeInside.the_type (search crosses depth 20, (talk_asked_send, (place_send, tt))))
+
+pub passed_send : IsSend Passed.the_row
+passed_send = declared_send Passed.the_type (kept Asked.the_row, (kept Response.the_row, (search sendable depth 20, (search sendable depth 20, (search sendable depth 20, tt)))))
+
+pub asking_send : IsSend Asking.the_row
+asking_send = declared_send Asking.the_type (asked.the_send, (exchange_send, tt))
+
+pub failing_send : IsSend Failing.the_row
+failing_send = declared_send Failing.the_type (kept Asked.the_row, (kept Exchange.the_row, (why.the_send, tt)))
+
+pub passing_send : IsSend Passing.the_row
+passing_send = declared_send Passing.the_type (passed_send, (exchange_send, tt))
+
+pub finishing_send : IsSend Finishing.the_row
+finishing_send = declared_send Finishing.the_type (passed_send, (kept Exchange.the_row, (end_cause.the_send, tt)))
+
+pub http_refusing_send : IsSend HttpRefusing.the_row
+http_refusing_send = declared_send HttpRefusing.the_type (http_cause.the_send, (kept Body.the_row, tt))
+
+pub http_stage_send : IsSend HttpStage.the_row
+http_stage_send = variants_send HttpStage.enum ((http_head.the_send, tt), ((http_body.the_send, tt), ((http_refusing_send, tt), ((asking_send, tt), ((failing_send, tt), ((passing_send, tt), ((finishing_send, tt), tt)))))))
+
+module _ (ℓ : NamedLft) (L D C : RattleType) (g : link.Ghosts L.Denot) (h : dial.Ghosts D.Denot) (i : clock.Ghosts C.Denot) (l : IsSend L) (d : IsSend D) (c : IsSend C) where
+  pub line_send : IsSend (Line.the_row D h)
+  line_send = view_send _ _ _ _ _ (declared_send (LineInside.the_type D h) (search (d, sendable) depth 20, (kept D, tt)))
+
+  pub watch_send : IsSend (Watch.the_row C i)
+  watch_send = view_send _ _ _ _ _ (declared_send (WatchInside.the_type C i) (search (c, sendable) depth 20, (kept C, (search sendable depth 20, tt))))
+
+  pub http_live_send : IsSend (HttpLive.the_row ℓ L D C g h i)
+  http_live_send = view_send _ _ _ _ _ (declared_send (HttpLiveInside.the_type ℓ L D C g h i) (search crosses depth 20, (wire_send ℓ L g l, (line_send, (watch_send, (seat_send ℓ, (search (routes.the_sync, sendable) depth 20, (search (signer.the_sync, sendable) depth 20, (body_bytes.the_send, tt)))))))))
+
+  pub http_open_send : IsSend (HttpOpen.the_row ℓ L D C g h i)
+  http_open_send = view_send _ _ _ _ _ (declared_send (HttpOpenInside.the_type ℓ L D C g h i) (http_live_send, (http_stage_send, tt)))
+
+  pub devices_send : IsSend (Devices.the_row L D C g h i)
+  devices_send = view_send _ _ _ _ _ (declared_send (DevicesInside.the_type L D C g h i) (search (l, sendable) depth 20, (search (d, sendable) depth 20, (search (c, sendable) depth 20, tt))))
+
+  pub http_send : IsSend (HttpSession.the_row ℓ L D C g h i)
+  http_send = view_send _ _ _ _ _ (declared_send (HttpInside.the_type ℓ L D C g h i) (search (http_open_send, sendable) depth 20, (search (devices_send, sendable) depth 20, tt)))
+
+module _ (ℓ : NamedLft) (K A D C I G L : RattleType) (g : link.Ghosts L.Denot) (h : dial.Ghosts D.Denot) (i : clock.Ghosts C.Denot) (l : IsSend L) (d : IsSend D) (c : IsSend C) where
+  pub serving_send : IsSend (Serving.the_row ℓ K A D C I G L g h i)
+  serving_send = declared_send (Serving.the_type ℓ K A D C I G L g h i) (search (http_send, sendable) depth 20, tt)
+
+module _ (ℓ : NamedLft) (K A D C I G L : RattleType) (g : link.Ghosts L.Denot) (l : IsSend L) where
+  pub publisher_send : IsSend (Publisher.the_row ℓ K A D C I G L g)
+  publisher_send = declared_send (Publisher.the_type ℓ K A D C I G L g) (search (publish_send, sendable) depth 20, tt)
