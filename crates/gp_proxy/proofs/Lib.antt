@@ -1,5 +1,1 @@
-pub mod Lists
-pub mod Lines
-pub mod Noting
-pub mod Plays
-pub mod Saying
+pub mod Readying

@@ -1,9 +1,2 @@
-pub mod Statuses
-pub mod Scripts
-pub mod Reads
-pub mod Outputs
-pub mod Replays
-pub mod Logs
-pub mod Loads
-pub mod Words
+pub mod Servings
 pub mod Runs

@@ -1,44 +1,38 @@
+//! What a command line asks for.
 ghost use Rattle.std.specs.Prelude.{◌≡◌, [], map, string_bytes};
 ghost use Rattle.gp_plain.specs.Standing.{StandsFor};
 ghost use Rattle.gp_proxy.specs.Runs.{RunSays};
-ghost use Rattle.gp_proxy.specs.Words.{path_of, usage_of};
+ghost use Rattle.gp_serve.specs.Words.{command_of};
 
-use crate::replays::{load, played};
-use crate::status::Status;
-use crate::words::path_in;
-use gp_outside::{World, write_all};
-use gp_plain::chain_law;
-use gp_registry::Registry;
+use crate::serving::serve;
+use gp_outside::World;
+use gp_replay::{Registry, Status, replay_on};
+use gp_serve::{Command, command_in};
 use std::alloc::Global;
+use std::sync::Wait;
+use std::thread::Threads;
 
-/// Does what the words of a command line ask, on an empty registry: `replay FILE`.
+/// Does what the words of a command line ask: `replay FILE` on an empty registry, or `serve ROUTES` with options.
 ///
-/// `Usage` comes exactly where the words aren't in this grammar, and nothing is then read or written.
-pub fn run<W: World>(
+/// `Usage` comes exactly where the words aren't in this grammar, and nothing is then read, served or written. A server leaves
+/// the registry as it was.
+pub fn run<R: Threads + Wait + Sync, W: World>(
+    rt: &R,
     alloc: Global,
     words: &[String],
     registry: &mut Registry,
     world: &mut W,
 ) -> Status
     requires { StandsFor registry.old [] }
-    ensures { RunSays (usage_of (map string_bytes words.now)) result (record { content = W.Files.content (W.parts world.old).files (path_of (map string_bytes words.now)); file_faults = W.Files.faults (W.parts world.old).files; file_faults_after = W.Files.faults (W.parts world.new).files; sink = W.Out.tells (W.parts world.old).out; sink_after = W.Out.tells (W.parts world.new).out; stands = registry.new }) }
+    ensures { RunSays (record { content = W.Files.content; faults = W.Files.faults; out = W.Out.tells; clock = W.Clock.tells; parts = W.Kit.parts; listens = W.Kit.Listen.tells; links = W.Kit.Listen.Link.tells; dials = W.Kit.Dial.tells; clocks = W.Kit.Clock.tells }) (command_of (map string_bytes words.now)) (W.parts world.old) (W.parts world.new) registry.old registry.new result }
 {
-    let path = match path_in(words) {
-        Ok(path) => path,
+    let (routes, asked) = match command_in(words) {
+        Ok(Command::Replay(path)) => return replay_on(alloc, path, registry, world),
+        Ok(Command::Serve(routes, asked)) => (routes, asked),
         Err(place) => return Status::Usage(place),
     };
-    let events = match load(alloc, path, world.files()) {
-        Ok(events) => events,
-        Err(status) => return status,
-    };
-    let text = match played(alloc, registry, events) {
-        Ok(text) => text,
-        Err(status) => return status,
-    };
-    chain_law();
-    if write_all(world.out(), text.as_slice()) {
-        Status::Done
-    } else {
-        Status::SinkFault
+    match asked.options(alloc) {
+        Ok(options) => serve::<R, W>(rt, alloc, routes, &options, world),
+        Err(_) => Status::NoMemory,
     }
 }

@@ -1,20 +1,13 @@
-//! The program's calls: `run` on the words of a command line, and `replay` of a script.
+//! The program's calls: `run` on the words of a command line, `replay` of a script, and `serve` over the routes of a file.
 //!
-//! A script is read and checked as a whole, its events are stepped on a registry, and the replies and the holds' logs
-//! are written. Contracts say that what was written is the output of the script, and that the chain law holds of it.
-//! It stands on the registry, on the texts of `gp_script`, and on files and a sink that it is lent.
+//! `specs/Runs.antt` says what a run does by its status, and `specs/Servings.antt` what a server does. It stands on `gp_replay`, on
+//! the server's parts of `gp_serve`, on the maker of sessions of `gp_maker`, and on a world that it is lent.
 #![tactic(auto)]
 
 mod command;
-mod log;
-mod logs;
-mod play;
-mod replays;
-mod script;
-mod status;
-mod words;
+mod serving;
 
 pub use command::run;
-pub use gp_registry::Registry;
-pub use replays::replay;
-pub use status::Status;
+pub use gp_replay::{Registry, Status, replay};
+pub use gp_serve::Options;
+pub use serving::serve;

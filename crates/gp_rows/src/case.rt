@@ -1,21 +1,22 @@
 use crate::shown::{show_lines, show_status};
-use gp_outside::{Kits, MemClock, MemFiles, MemOut, MemWorld, Times, Turn, Turns, World};
+use gp_outside::{MemFiles, MemOut, Turn, Turns};
 use gp_plain::Body;
-use gp_proxy::{Registry, run};
+use gp_replay::{Registry, replay};
 use std::alloc::{AllocError, Global};
 
 /// The room of the sink, in bytes.
 const ROOM: usize = 2_000_000;
 
-/// One case: the words of the command line, the file `script`, and what each call on a device does in turn.
+/// One case: the path that is replayed, the file `script`, and what each call on a device does in turn.
 ///
-/// Its lines are `words WORDS`, without which the words are `replay script`; `reads TURN` and `writes TURN`, with a number of bytes,
-/// `wait` or `fail`; `only TEXT`, by which no other lines are shown than those that begin with it; and the lines of the script: `| LINE`; `- LINE` without a line feed; `+ N LINE` with N bytes `x`
-/// behind it; and `* N LINE`, N times, each `#` in it being the number of the time, from 1, and each `@` the number before.
+/// Its lines are `path PATH`, without which it is that of the script; `reads TURN` and `writes TURN`, with a number of bytes, `wait` or
+/// `fail`; `only TEXT`, by which no other lines are shown than those that begin with it; and the lines of the script: `| LINE`; `- LINE`
+/// without a line feed; `+ N LINE` with N bytes `x` behind it; and `* N LINE`, N times, each `#` in it being the number of the time, from
+/// 1, and each `@` the number before.
 #[derive(Drop)]
 pub struct Case {
     alloc: Global,
-    words: String,
+    path: String,
     only: String,
     script: String,
     reads: Vec<Turn>,
@@ -79,20 +80,12 @@ fn push_long(text: &mut String, line: &str, count: usize) -> Result<(), AllocErr
     text.push('\n')
 }
 
-fn split_words(alloc: Global, line: &str) -> Result<Vec<String>, AllocError> {
-    let mut words = Vec::new(alloc);
-    for word in line.split_whitespace() {
-        words.push(String::from_str(alloc, word)?)?;
-    }
-    Ok(words)
-}
-
 impl Case {
-    /// The words `replay script`, an empty file, and devices that are always ready.
+    /// The path of the script, an empty file, and devices that are always ready.
     pub fn new(alloc: Global) -> Result<Case, AllocError> {
         Ok(Case {
             alloc,
-            words: String::from_str(alloc, "replay script")?,
+            path: String::from_str(alloc, "script")?,
             only: String::new(alloc),
             script: String::new(alloc),
             reads: Vec::new(alloc),
@@ -108,7 +101,7 @@ impl Case {
             ("-", _) => self.script.push_str(rest)?,
             ("*", Some((count, line))) => push_times(self.alloc, &mut self.script, line, count)?,
             ("+", Some((count, line))) => push_long(&mut self.script, line, count)?,
-            ("words", _) => self.words = String::from_str(self.alloc, rest)?,
+            ("path", _) => self.path = String::from_str(self.alloc, rest)?,
             ("only", _) => self.only = String::from_str(self.alloc, rest)?,
             ("reads", _) => self.reads.push(turn(rest))?,
             ("writes", _) => self.writes.push(turn(rest))?,
@@ -117,28 +110,23 @@ impl Case {
         Ok(true)
     }
 
-    fn world(self) -> Result<MemWorld, AllocError> {
-        let path = Body::new(self.alloc, b"script")?;
-        let content = Body::from_vec(self.script.into_bytes());
-        let reads = Turns::from_vec(self.reads);
-        let writes = Turns::from_vec(self.writes);
-        let files = MemFiles::new(self.alloc, path, content, reads);
-        let out = MemOut::new(self.alloc, ROOM, writes)?;
-        let clock = MemClock::new(Times::new(self.alloc));
-        let kits = Kits::new(self.alloc);
-        Ok(MemWorld::new(self.alloc, files, out, clock, kits))
-    }
-
     /// The status that the case ends with, and the lines that were written.
     pub fn play(self) -> Result<String, AllocError> {
         let alloc = self.alloc;
-        let words = split_words(alloc, self.words.as_str())?;
-        let only = String::from_str(alloc, self.only.as_str())?;
-        let mut world = self.world()?;
+        let path = Body::new(alloc, b"script")?;
+        let content = Body::from_vec(self.script.into_bytes());
+        let mut files = MemFiles::new(alloc, path, content, Turns::from_vec(self.reads));
+        let mut out = MemOut::new(alloc, ROOM, Turns::from_vec(self.writes))?;
         let mut registry = Registry::new(alloc);
-        let status = run(alloc, words.as_slice(), &mut registry, &mut world);
+        let status = replay(
+            alloc,
+            self.path.as_str(),
+            &mut registry,
+            &mut files,
+            &mut out,
+        );
         let mut text = show_status(alloc, status)?;
-        show_lines(alloc, &mut text, only.as_str(), world.out().written())?;
+        show_lines(alloc, &mut text, self.only.as_str(), out.written())?;
         Ok(text)
     }
 }

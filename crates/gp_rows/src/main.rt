@@ -1,9 +1,9 @@
-//! The rows that the program's calls are tested by: cases of words, scripts and devices in memory, each run alone.
+//! The rows that a replay is tested by: cases of scripts and of devices in memory, each run alone.
 //!
 //! Standard input has the cases, and the stored output what each of them must write, which was worked out by hand from
 //! the rules of docs/PROTOCOL.md. A line `# TITLE` begins a case; `case.rt` has its other lines. The words of `named`
 //! stand for calls that no script makes. So a new row is two pieces of text,
-//! and there is nothing to prove of it. It stands on `gp_proxy`, and on the devices in memory of `gp_outside`.
+//! and there is nothing to prove of it. It stands on `gp_replay`, and on the devices in memory of `gp_outside`.
 #![tactic(auto)]
 
 mod case;

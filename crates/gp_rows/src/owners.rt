@@ -1,7 +1,7 @@
 ghost use Rattle.std.specs.Prelude.{◌+◌, ◌<◌, ◌≤◌};
 
 use crate::shown::push_bytes;
-use gp_proxy::Registry;
+use gp_replay::Registry;
 use gp_script::{LineFault, read_line, write_reply};
 use std::alloc::{AllocError, Global};
 

@@ -1,4 +1,4 @@
-use gp_proxy::Status;
+use gp_replay::Status;
 use std::alloc::{AllocError, Global};
 
 /// A line of more bytes is shown by its first ones and its length.

@@ -8,7 +8,7 @@ use Rattle.gp_hub.specs.Passes.{HubView}
 use Rattle.gp_workers.specs.Makers.{Means}
 use Rattle.gp_workers.specs.declared.report.WorkerReport.{WorkerReport}
 use Rattle.gp_serve.specs.Serves.{HaveRun, Leaves, Serves}
-use Rattle.gp_proxy.specs.declared.status.Status.{Status}
+use Rattle.gp_replay.specs.declared.status.Status.{Status}
 
 module _ {F O C K Ln I G L D T : Type 0} where
   pub served : (out : O → SinkTells) (parts : K → KitParts Ln I G L D T) (tells : Ln → ListenTells) (means : Means L D T) (workers limit : ℕ) (start : HubView) (before made now : WorldParts F O C K) (status : Status) (back : List K) (given reports : List WorkerReport)

@@ -4,9 +4,9 @@ use Rattle.gp_outside.specs.Counts.{Rose}
 use Rattle.gp_routes.specs.Files.{AreRulesOf, IsFirstFault}
 use Rattle.gp_routes.specs.declared.route.RouteKind.{RouteKind}
 use Rattle.gp_routes.specs.declared.route.Rule.{Rule}
-use Rattle.gp_proxy.specs.Loads.{Load, IsContent, IsLongFile, IsQuiet}
-use Rattle.gp_proxy.specs.declared.status.Status.{Status}
-use Rattle.gp_proxy.specs.declared.status.Status.TheVariants.{Done, Usage, FileFault, TooLong, BadLine, SinkFault, ListenFault, NoMemory}
+use Rattle.gp_replay.specs.Loads.{Load, IsContent, IsLongFile, IsQuiet}
+use Rattle.gp_replay.specs.declared.status.Status.{Status}
+use Rattle.gp_replay.specs.declared.status.Status.TheVariants.{Done, Usage, FileFault, TooLong, BadLine, SinkFault, ListenFault, NoMemory}
 
 -- the rules are those of the file
 pub record AreRead (load : Load) (rules : List Rule) : Type 0 where

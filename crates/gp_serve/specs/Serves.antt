@@ -11,8 +11,8 @@ use Rattle.gp_workers.specs.Makers.{Means}
 use Rattle.gp_workers.specs.Shifts.{HaveWorked}
 use Rattle.gp_workers.specs.declared.report.WorkerReport.{WorkerReport}
 use Rattle.gp_serve.specs.ReportTexts.{workers_text}
-use Rattle.gp_proxy.specs.declared.status.Status.{Status}
-use Rattle.gp_proxy.specs.declared.status.Status.TheVariants.{Done, Usage, FileFault, TooLong, BadLine, SinkFault, ListenFault, NoMemory}
+use Rattle.gp_replay.specs.declared.status.Status.{Status}
+use Rattle.gp_replay.specs.declared.status.Status.TheVariants.{Done, Usage, FileFault, TooLong, BadLine, SinkFault, ListenFault, NoMemory}
 
 -- whether memory was wanting for a worker
 abbrev pub any_wanting : List WorkerReport → Bool

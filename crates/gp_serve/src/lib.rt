@@ -4,7 +4,7 @@
 //! [`run_workers`] runs workers over any maker of sessions. `specs/Words.antt` and `specs/Options.antt` have the grammar of the
 //! command line, `specs/RoutesRead.antt` what is read of a routes file, `specs/ReportTexts.antt` the report, and
 //! `specs/Serves.antt` what a server does by its status. The program doesn't call it yet. It stands on `gp_workers`, on the
-//! statuses of `gp_proxy`, and on the texts of `gp_script`.
+//! statuses of `gp_replay`, and on the texts of `gp_script`.
 #![tactic(auto)]
 
 mod options;

@@ -1,11 +1,11 @@
 //! The read of a routes file.
 ghost use Rattle.std.specs.Prelude.{MatchResult};
-ghost use Rattle.gp_proxy.specs.Loads.{IsContent};
+ghost use Rattle.gp_replay.specs.Loads.{IsContent};
 ghost use Rattle.gp_serve.specs.RoutesRead.{AreRead, AreUnread};
 
 use gp_outside::{FileRead, Files};
 use gp_plain::Body;
-use gp_proxy::Status;
+use gp_replay::Status;
 use gp_routes::{RouteFault, Routes, read_routes};
 use std::alloc::Global;
 

@@ -9,7 +9,7 @@ use crate::report::report_of;
 use gp_hub::{Hub, HubPass};
 use gp_outside::{KitMade, World, write_all};
 use gp_plain::Queue;
-use gp_proxy::Status;
+use gp_replay::Status;
 use gp_workers::{Maker, WorkerReport, work};
 use std::alloc::{AllocError, Global};
 use std::sync::Wait;

@@ -2,9 +2,9 @@
 use Rattle.std.specs.Prelude.{ℕ, ◌≡◌, ◌⊎◌, List, [], ◌∷◌, ◌++◌}
 use Rattle.std.specs.Fmt.{decimal}
 use Rattle.gp_outside.specs.Devices.{SinkTells, WroteAll, WrotePart}
-use Rattle.gp_proxy.specs.Statuses.{exit_of, words_of}
-use Rattle.gp_proxy.specs.declared.status.Status.{Status}
-use Rattle.gp_proxy.specs.declared.status.Status.TheVariants.{Done, Usage, FileFault, TooLong, BadLine, SinkFault, ListenFault, NoMemory}
+use Rattle.gp_replay.specs.Statuses.{exit_of, words_of}
+use Rattle.gp_replay.specs.declared.status.Status.{Status}
+use Rattle.gp_replay.specs.declared.status.Status.TheVariants.{Done, Usage, FileFault, TooLong, BadLine, SinkFault, ListenFault, NoMemory}
 
 -- the words of the status, the number of the word or the line where it has one, and a line feed; nothing where all
 -- went well

@@ -1,9 +1,9 @@
 ghost use Rattle.std.specs.Prelude.{◌≡◌, ◌⊎◌, IfOk, string_bytes};
 ghost use Rattle.pushpin.specs.Ends.{IsEnd, said_of};
-ghost use Rattle.gp_proxy.specs.declared.status.Status.TheVariants.{NoMemory as WantOfMemory};
+ghost use Rattle.gp_replay.specs.declared.status.Status.TheVariants.{NoMemory as WantOfMemory};
 
 use gp_outside::{Out, write_all};
-use gp_proxy::Status;
+use gp_replay::Status;
 use std::alloc::{AllocError, Global};
 
 /// What standard error is told of a status.

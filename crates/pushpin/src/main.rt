@@ -26,23 +26,26 @@ fn words(rt: &HostRuntime) -> Result<Vec<String>, Status> {
     }
 }
 
-fn play(rt: &HostRuntime) -> Status {
-    let words = match words(rt) {
-        Ok(words) => words,
-        Err(status) => return status,
-    };
-    if let Some(asked) = question(words.as_slice()) {
-        return match print!(rt; "{}", asked.answer()) {
-            Ok(()) => Status::Done,
-            Err(_) => Status::SinkFault,
-        };
+/// The answer to words that the program answers itself, and how that went.
+fn answered(rt: &HostRuntime, words: &[String]) -> Option<Status> {
+    let asked = question(words)?;
+    match print!(rt; "{}", asked.answer()) {
+        Ok(()) => Some(Status::Done),
+        Err(_) => Some(Status::SinkFault),
     }
-    let mut registry = Registry::new(rt.alloc());
-    let mut world = NetWorld::new(rt.alloc(), *rt, io::writer(rt));
-    run(rt.alloc(), words.as_slice(), &mut registry, &mut world)
 }
 
 fn main(rt: HostRuntime) -> ExitCode {
-    let status = play(&rt);
+    let status = match words(&rt) {
+        Ok(words) => match answered(&rt, words.as_slice()) {
+            Some(status) => status,
+            None => {
+                let mut registry = Registry::new(rt.alloc());
+                let mut world = NetWorld::new(rt.alloc(), rt, io::writer(&rt));
+                run(&rt, rt.alloc(), words.as_slice(), &mut registry, &mut world)
+            }
+        },
+        Err(status) => status,
+    };
     ExitCode::from(end(rt.alloc(), status, &mut NetOut::new(rt.stderr())))
 }

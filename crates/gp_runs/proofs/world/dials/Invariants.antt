@@ -1,0 +1,7 @@
+use Rattle.std.specs.List.{All}
+use Rattle.gp_outside.specs.MemDials.{DialState, told_dial}
+use Rattle.gp_outside.specs.Unused.{IsUnusedDial}
+use Rattle.gp_runs.proofs.world.dials.Given as goal
+
+abbrev pub invariant-loop : goal.invariant-loop
+invariant-loop l = All (λ (dial : DialState). IsUnusedDial (told_dial dial)) l.dials.items

@@ -1,0 +1,7 @@
+use Rattle.std.specs.List.{All}
+use Rattle.gp_outside.specs.MemLinks.{LinkState, told_link}
+use Rattle.gp_outside.specs.Unused.{IsUnusedLink}
+use Rattle.gp_runs.proofs.world.links.Given as goal
+
+abbrev pub invariant-loop : goal.invariant-loop
+invariant-loop l = All (λ (link : LinkState). IsUnusedLink (told_link link)) l.links.items
