@@ -1,0 +1,72 @@
+#!/usr/bin/env python3
+"""An origin for Pushpin, by the standard library alone.
+
+    examples/origin.py PORT [KEY]
+
+GET / is a page. POST /echo answers the body that it was sent. GET /count comes in chunks. GET /signed says whether the request
+carries a token that was signed with KEY. GET /hold asks by GRIP that the request be held open.
+"""
+
+import base64
+import hashlib
+import hmac
+import json
+import sys
+import time
+from http.server import BaseHTTPRequestHandler, ThreadingHTTPServer
+
+
+def decoded(part):
+    """The bytes of one part of a token: base64url without its padding."""
+    return base64.urlsafe_b64decode(part + "=" * (-len(part) % 4))
+
+
+def is_signed(key, token):
+    """Whether a token was signed with the key, by Pushpin, and hasn't expired."""
+    try:
+        head, claims, mac = token.split(".")
+        wanted = hmac.new(key, f"{head}.{claims}".encode(), hashlib.sha256).digest()
+        says = json.loads(decoded(claims))
+        return hmac.compare_digest(wanted, decoded(mac)) and says["iss"] == "pushpin" and says["exp"] > time.time()
+    except (ValueError, KeyError):
+        return False
+
+
+class Handler(BaseHTTPRequestHandler):
+    protocol_version = "HTTP/1.1"
+
+    def answer(self, code, body, **fields):
+        self.send_response_only(code)
+        for name, value in {"content-type": "text/plain", **fields, "content-length": len(body)}.items():
+            self.send_header(name.replace("_", "-"), value)
+        self.end_headers()
+        self.wfile.write(body)
+
+    def do_GET(self):
+        if self.path == "/":
+            self.answer(200, b"Hello from the origin\n")
+        elif self.path == "/count":
+            self.send_response_only(200)
+            self.send_header("transfer-encoding", "chunked")
+            self.end_headers()
+            for number in (b"1\n", b"2\n", b"3\n"):
+                self.wfile.write(b"%x\r\n%s\r\n" % (len(number), number))
+                time.sleep(0.1)
+            self.wfile.write(b"0\r\n\r\n")
+        elif self.path == "/signed":
+            known = is_signed(self.server.key, self.headers.get("grip-sig", ""))
+            self.answer(200, b"signed\n" if known else b"not signed\n")
+        elif self.path == "/hold":
+            self.answer(200, b"", grip_hold="stream", grip_channel="news")
+        else:
+            self.answer(404, b"The origin has no such page\n")
+
+    def do_POST(self):
+        body = self.rfile.read(int(self.headers.get("content-length", 0)))
+        self.answer(200 if self.path == "/echo" else 404, body)
+
+
+if __name__ == "__main__":
+    server = ThreadingHTTPServer(("127.0.0.1", int(sys.argv[1])), Handler)
+    server.key = sys.argv[2].encode() if len(sys.argv) > 2 else b""
+    server.serve_forever()
