@@ -1,7 +1,7 @@
 use crate::shown::{show_lines, show_status};
 use gp_outside::{MemFiles, MemOut, Turn, Turns};
 use gp_plain::Body;
-use gp_replay::{Registry, replay};
+use gp_replay::{Registry, Status, replay};
 use std::alloc::{AllocError, Global};
 
 /// The room of the sink, in bytes.
@@ -80,6 +80,12 @@ fn push_long(text: &mut String, line: &str, count: usize) -> Result<(), AllocErr
     text.push('\n')
 }
 
+/// The status of a replay.
+fn status_of(alloc: Global, path: &str, files: &mut MemFiles, out: &mut MemOut) -> Status {
+    let mut registry = Registry::new(alloc);
+    replay(alloc, path, &mut registry, files, out)
+}
+
 impl Case {
     /// The path of the script, an empty file, and devices that are always ready.
     pub fn new(alloc: Global) -> Result<Case, AllocError> {
@@ -117,14 +123,7 @@ impl Case {
         let content = Body::from_vec(self.script.into_bytes());
         let mut files = MemFiles::new(alloc, path, content, Turns::from_vec(self.reads));
         let mut out = MemOut::new(alloc, ROOM, Turns::from_vec(self.writes))?;
-        let mut registry = Registry::new(alloc);
-        let status = replay(
-            alloc,
-            self.path.as_str(),
-            &mut registry,
-            &mut files,
-            &mut out,
-        );
+        let status = status_of(alloc, self.path.as_str(), &mut files, &mut out);
         let mut text = show_status(alloc, status)?;
         show_lines(alloc, &mut text, self.only.as_str(), out.written())?;
         Ok(text)

@@ -90,6 +90,25 @@ fn show(alloc: Global, text: &mut String, world: &mut MemWorld) -> Result<(), Al
     Ok(())
 }
 
+/// The status of a run of the words over a world.
+fn status_of<R: Threads + Wait + Sync>(
+    rt: &R,
+    alloc: Global,
+    words: &[String],
+    world: &mut MemWorld,
+) -> Status {
+    let mut registry = Registry::new(alloc);
+    run(rt, alloc, words, &mut registry, world)
+}
+
+/// A status, what was written, and what was sent.
+fn shown(alloc: Global, status: Status, world: &mut MemWorld) -> Result<String, AllocError> {
+    let mut text = String::new(alloc);
+    push(&mut text, status_line(alloc, status)?)?;
+    show(alloc, &mut text, world)?;
+    Ok(text)
+}
+
 impl Case {
     /// No words, an empty file, a sink that is always ready, and no kits.
     pub fn new(alloc: Global) -> Case {
@@ -133,12 +152,8 @@ impl Case {
     /// The status that the case ends with, what was written, and what was sent.
     pub fn play<R: Threads + Wait + Sync>(self, rt: &R) -> Result<String, AllocError> {
         let alloc = self.alloc;
-        let mut registry = Registry::new(alloc);
         let mut world = world(alloc, self.file, self.writes, self.doors.as_slice())?;
-        let status = run(rt, alloc, self.words.as_slice(), &mut registry, &mut world);
-        let mut text = String::new(alloc);
-        push(&mut text, status_line(alloc, status)?)?;
-        show(alloc, &mut text, &mut world)?;
-        Ok(text)
+        let status = status_of(rt, alloc, self.words.as_slice(), &mut world);
+        shown(alloc, status, &mut world)
     }
 }
