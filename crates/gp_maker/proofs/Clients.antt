@@ -1,7 +1,19 @@
 -- What a client's session leaves is what a maker says of it.
-use Rattle.std.proofs.Common.{◌≡◌, ℕ, ◌<◌, ◌==◌, true, [], map, filter, Option, Some, IfSome, refl, sym, ap, ◌∙◌, subst}
+use Rattle.std.proofs.Common.{◌≡◌, ℕ, ◌+◌, ◌<◌, ◌==◌, Bool, true, false, cond, List, [], ◌∷◌, ◌++◌, map, filter, Option, Some, IfSome, refl, sym, ap, ◌∙◌, subst, arith, ◌⊎◌, inl, inr}
 use Rattle.std.specs.List.{All, count_by}
-use Rattle.std.proofs.lemmas.List.Elements.{All-nil}
+use Rattle.std.proofs.lemmas.List.Elements.{All-head, All-tail}
+use Rattle.std.proofs.lemmas.List.Sums.{sum_by-cons}
+use Rattle.gp_plain.specs.declared.event.Event.{Event}
+use Rattle.gp_plain.specs.declared.event.Event.TheVariants.{Attach, Publish, Take, Page, PageFailed, Push, Join, Leave, Detach}
+use Rattle.gp_hub.specs.Own.{mine}
+use Rattle.gp_hub.specs.declared.outcome.SessionEnd.{SessionEnd}
+use Rattle.gp_hub.specs.declared.outcome.SessionEnd.TheVariants.{Sent, Cut, ClientGone, Worn, NoMemory}
+use Rattle.gp_session.specs.Seats.{SeatView}
+use Rattle.gp_session_hold.specs.Rows.{DetachedRow, EntriesRow, IsOwn, IsOwnEvent, holds_of, numbers_of}
+use Rattle.gp_session_http.specs.Holding.{EntriesAtEnd}
+use Rattle.gp_session_http.specs.Views.{LiveView}
+use Rattle.gp_session_http.specs.declared.stage.Ended.{Ended}
+use Rattle.gp_session_http.proofs.Ending.{leaves_reports, leaves_released, leaves_seat}
 use Rattle.atomic_table.specs.Seated.{TableId}
 use Rattle.gp_plain.specs.declared.event.Entry.{Entry}
 use Rattle.gp_plain.specs.Others.{Share, shares}
@@ -10,14 +22,62 @@ use Rattle.gp_outside.specs.Dials.{DialTells}
 use Rattle.gp_outside.specs.Links.{LinkTells}
 use Rattle.gp_outside.specs.Unused.{IsUnusedDial, IsUnusedLink}
 use Rattle.gp_turn.specs.Passes.{range, ranges_of, times_in}
-use Rattle.gp_hub.specs.Passes.{HubView}
-use Rattle.gp_session_http.specs.Polls.{DevicesView, SessionView, new_session}
+use Rattle.gp_hub.specs.Passes.{HubView, entry_of}
+use Rattle.gp_session_http.specs.Polls.{DevicesView, PhaseFinishes, SessionView, new_session}
 use Rattle.gp_workers.specs.declared.maker.Finished.{Finished}
 use Rattle.gp_workers.specs.Makers.{IsGiven, IsUnused, numbers}
-use Rattle.gp_workers.specs.Reports.{hold_report, owned, published_by}
+use Rattle.gp_workers.specs.Reports.{hold_report, is_publish, owned, published_by}
 use Rattle.gp_maker.specs.Meanings.{GivesClient, LeavesClient, Means, ServerView, charter_of, client}
 use Rattle.gp_maker.proofs.Owners.{all_apart, owned_shares, published_mine, publishes}
 use Rattle.gp_maker.proofs.Publishers.{in_ranges}
+
+-- a client's session publishes nothing
+
+quiet_event : (holds : List ℕ) (event : Event) → IsOwnEvent holds event → is_publish event ≡ false
+quiet_event holds (Attach spec) own = refl
+quiet_event holds (Publish item) own = absurd own
+quiet_event holds (Take hold now) own = refl
+quiet_event holds (Page hold from to bytes then) own = refl
+quiet_event holds (PageFailed hold) own = refl
+quiet_event holds (Push hold message) own = refl
+quiet_event holds (Join hold channel) own = refl
+quiet_event holds (Leave hold channel) own = refl
+quiet_event holds (Detach hold) own = refl
+
+quiet_all : (holds : List ℕ) (es : List Entry) → All (IsOwn holds) es → count_by publishes es ≡ 0
+quiet_all holds [] all = refl
+quiet_all holds (e ∷ es) all =
+    let sum = sum_by-cons (λ (x : Entry). cond (publishes x) 1 0) e es in
+    let one : cond {A = ℕ} (publishes e) 1 0 ≡ 0 = ap (λ (b : Bool). cond b 1 0) (quiet_event holds e.event (All-head (IsOwn holds) e es all)) in
+    let rest : count_by publishes es ≡ 0 = quiet_all holds es (All-tail (IsOwn holds) e es all) in
+    omega (arith, sum, one, rest)
+
+quiet_push : (es : List Entry) (e : Entry) → count_by publishes es ≡ 0 → publishes e ≡ false → count_by publishes (es ++ e ∷ []) ≡ 0
+quiet_push [] e none quiet = sum_by-cons (λ (x : Entry). cond (publishes x) 1 0) e [] ∙ ap (λ (b : Bool). cond b 1 0 + 0) quiet
+quiet_push (d ∷ ds) e none quiet =
+    let sum = sum_by-cons (λ (x : Entry). cond (publishes x) 1 0) d ds in
+    let more = sum_by-cons (λ (x : Entry). cond (publishes x) 1 0) d (ds ++ e ∷ []) in
+    let tail : count_by publishes ds ≡ 0 = omega (arith, sum, none) in
+    let rest : count_by publishes (ds ++ e ∷ []) ≡ 0 = quiet_push ds e tail quiet in
+    omega (arith, sum, more, none, rest)
+
+quiet_rows : (s : SeatView) → EntriesRow s → count_by publishes (mine s.pass) ≡ 0
+quiet_rows s row = quiet_all (numbers_of (holds_of s)) (mine s.pass) row
+
+quiet_end : (s : SeatView) → EntriesRow s ⊎ ((hold : ℕ) × DetachedRow s hold) → count_by publishes (mine s.pass) ≡ 0
+quiet_end s (inl row) = quiet_rows s row
+quiet_end s (inr (hold, d)) = ap (count_by publishes) d.all ∙ quiet_push d.before (entry_of s.pass.number (Detach hold)) (quiet_all (numbers_of (holds_of s)) d.before d.own) refl
+
+quiet_by : (e : SessionEnd) (s : SeatView) → EntriesAtEnd e s → count_by publishes (mine s.pass) ≡ 0
+quiet_by (Sent code) s row = quiet_rows s row
+quiet_by (Cut cause) s row = quiet_rows s row
+quiet_by ClientGone s row = quiet_end s row
+quiet_by Worn s row = quiet_rows s row
+quiet_by NoMemory s row = quiet_end s row
+
+none_published : (l : LiveView) (ended : Ended) → PhaseFinishes l ended → count_by publishes (mine l.seat.pass) ≡ 0
+none_published l ended (inl f) = ap (count_by publishes) f.told.stays.entries
+none_published l ended (inr f) = quiet_by ended.end l.seat f.entries
 
 module _ {L D C : Type 0} (links : L → LinkTells) (dials : D → DialTells) (clocks : C → ClockTells) (server : ServerView) where
   given_from : (turn : TableId) (claim : ℕ) (start : DevicesView) (pass : HubView) (over : Finished L D C) (l : LeavesClient links dials clocks start pass (charter_of server claim) over)
@@ -26,24 +86,25 @@ module _ {L D C : Type 0} (links : L → LinkTells) (dials : D → DialTells) (c
       let seat = l.live.seat in
       let first = seat.start.number in
       let r = range first numbers in
-      let stays = l.leaves.finishes.told.stays in
+      let ended : Ended = record { end = over.outcome.end; why = over.outcome.why } in
+      let row = leaves_seat l.live ended l.leaves.finishes in
       let is = l.leaves.pass in
-      let same = stays.seat.same in
+      let same = row.same in
       let number : over.outcome.pass.number ≡ first = ap (λ (p : HubView). p.number) is ∙ same.number in
-      let one = all_apart seat u.spare u.fresh stays.seat in
-      let none : owned r over.outcome.pass.seen ≡ [] =
-      ap (λ (p : HubView). owned r p.seen) is ∙ owned_shares r first seat.pass.seen one ∙ ap (λ (n : ℕ). shares n seat.pass.seen) (sym same.number) ∙ stays.holds in
+      let one = all_apart seat u.spare u.fresh row in
+      let own : owned r over.outcome.pass.seen ≡ holds_of seat =
+      ap (λ (p : HubView). owned r p.seen) is ∙ owned_shares r first seat.pass.seen one ∙ ap (λ (n : ℕ). shares n seat.pass.seen) (sym same.number) in
       let count : published_by r over.outcome.pass.seen ≡ 0 =
       ap (λ (p : HubView). published_by r p.seen) is ∙ published_mine r first seat.pass.seen one
       ∙ ap (λ (n : ℕ). count_by publishes (filter (λ (e : Entry). e.who == n) seat.pass.seen)) (sym same.number)
-      ∙ ap (count_by publishes) stays.entries in
+      ∙ none_published l.live ended l.leaves.finishes in
       record {
         turn = ap (λ (p : HubView). p.turn) is ∙ same.turn ∙ u.turn;
         number = number;
         parts = ap (λ (p : HubView). p.parts) is ∙ same.parts ∙ u.parts;
         ranges = λ n some. subst (λ (p : HubView). 0 < times_in n (ranges_of p)) (sym is) (in_ranges turn seat.start seat.pass n u same some);
-        holds = l.leaves.holds ∙ ap (map hold_report) (sym none);
-        kept = λ _. subst (All (λ (hold : ℕ × Share). hold.1.released ≡ true)) (sym none) (All-nil (λ (hold : ℕ × Share). hold.1.released ≡ true));
+        holds = l.leaves.holds ∙ leaves_reports l.live ended l.leaves.finishes ∙ ap (map hold_report) (sym own);
+        kept = λ serves. subst (All (λ (hold : ℕ × Share). hold.1.released ≡ true)) (sym own) (leaves_released l.live ended l.leaves.finishes serves);
         published = l.leaves.published ∙ sym count;
         is = client (record { start = start; unused = link; uncalled = dial; pass = pass; outcome = over.outcome; leaves = l; told = record { seen_is = refl; number_is = number; end_is = refl; holds_are = refl } });
       }

@@ -1,3 +1,5 @@
+-- That the sessions of a server may be sent to another thread, struct by struct: each is sent where its fields are, and what contracts alone
+-- remember is nothing that is sent. A search over a whole session would be too long.
 use denote.RattleType.{RattleType}
 use denote.Ref.{NamedLft}
 use denote.Param.Send.{IsSend, view_send, sendable}
@@ -53,9 +55,29 @@ use Rattle.gp_session.specs.contracts.line.Line as Line
 use Rattle.gp_session.specs.contracts.line.Line.TheInside as LineInside
 use Rattle.gp_session.specs.contracts.watch.Watch as Watch
 use Rattle.gp_session.specs.contracts.watch.Watch.TheInside as WatchInside
+use Rattle.gp_plain.proofs.event.HoldSpec.TheSendSync as spec
+use Rattle.gp_plain.proofs.http.Response.TheSendSync as response
+use Rattle.gp_plain.proofs.list.List.TheSendSync as list
+use Rattle.gp_plain.proofs.reply.HoldReport.TheSendSync as report
+use Rattle.gp_instruct_json.specs.contracts.answer.Answer as Answer
+use Rattle.gp_session_hold.proofs.hold.KeptHold.TheSendSync as kept_hold
+use Rattle.gp_session_hold.specs.contracts.hold.KeptHold as KeptHold
+use Rattle.gp_session_hold.specs.contracts.stream.Stream as Stream
+use Rattle.gp_session_hold.specs.contracts.stream.Stream.TheInside as StreamInside
 use Rattle.gp_maker.specs.contracts.client.Serving as Serving
 use Rattle.gp_maker.specs.contracts.publisher.Publishing as Publisher
 use Rattle.gp_session_http.proofs.asked.Asked.TheSendSync as asked
+use Rattle.gp_session_http.proofs.leaving.Parting.TheSendSync as parting
+use Rattle.gp_session_http.specs.contracts.attaching.Attaching as Attaching
+use Rattle.gp_session_http.specs.contracts.closing.Closing as Closing
+use Rattle.gp_session_http.specs.contracts.declining.Declining as Declining
+use Rattle.gp_session_http.specs.contracts.gathering.Gathering as Gathering
+use Rattle.gp_session_http.specs.contracts.giving.Giving as Giving
+use Rattle.gp_session_http.specs.contracts.grant.Grant as Grant
+use Rattle.gp_session_http.specs.contracts.held.Held as Held
+use Rattle.gp_session_http.specs.contracts.leaving.Leaving as Leaving
+use Rattle.gp_session_http.specs.contracts.session.Phase as Phase
+use Rattle.gp_session_http.specs.contracts.streaming.Streaming as Streaming
 use Rattle.gp_session_http.proofs.cause.Cause.TheSendSync as http_cause
 use Rattle.gp_session_http.proofs.reading_body.ReadingBody.TheSendSync as http_body
 use Rattle.gp_session_http.proofs.reading_head.ReadingHead.TheSendSync as http_head
@@ -143,8 +165,41 @@ finishing_send = declared_send Finishing.the_type (passed_send, (kept Exchange.t
 pub http_refusing_send : IsSend HttpRefusing.the_row
 http_refusing_send = declared_send HttpRefusing.the_type (http_cause.the_send, (kept Body.the_row, tt))
 
+pub gathering_send : IsSend Gathering.the_row
+gathering_send = declared_send Gathering.the_type (asked.the_send, (exchange_send, (response.the_send, (body_bytes.the_send, tt))))
+
+pub giving_send : IsSend Giving.the_row
+giving_send = declared_send Giving.the_type (kept Asked.the_row, (kept Exchange.the_row, (kept Answer.the_row, (search sendable depth 20, tt))))
+
+pub grant_send : IsSend Grant.the_row
+grant_send = declared_send Grant.the_type (kept Asked.the_row, (kept Exchange.the_row, (kept Answer.the_row, (search sendable depth 20, (search sendable depth 20, tt)))))
+
+pub attaching_send : IsSend Attaching.the_row
+attaching_send = declared_send Attaching.the_type (grant_send, (body_bytes.the_send, (spec.the_send, tt)))
+
+pub declining_send : IsSend Declining.the_row
+declining_send = declared_send Declining.the_type (grant_send, tt)
+
+pub stream_send : IsSend Stream.the_row
+stream_send = view_send _ _ _ _ _ (declared_send StreamInside.the_type (search crosses depth 20, (kept_hold.the_send, (search sendable depth 20, (kept Body.the_row, tt)))))
+
+pub streaming_send : IsSend Streaming.the_row
+streaming_send = declared_send Streaming.the_type (grant_send, (stream_send, tt))
+
+pub closing_send : IsSend Closing.the_row
+closing_send = declared_send Closing.the_type (grant_send, (kept KeptHold.the_row, (end_cause.the_send, tt)))
+
+pub leaving_send : IsSend Leaving.the_row
+leaving_send = declared_send Leaving.the_type (grant_send, (kept_hold.the_send, (parting.the_send, tt)))
+
+pub held_send : IsSend Held.the_row
+held_send = variants_send Held.enum ((attaching_send, tt), ((declining_send, tt), ((streaming_send, tt), ((closing_send, tt), ((leaving_send, tt), tt)))))
+
 pub http_stage_send : IsSend HttpStage.the_row
-http_stage_send = variants_send HttpStage.enum ((http_head.the_send, tt), ((http_body.the_send, tt), ((http_refusing_send, tt), ((asking_send, tt), ((failing_send, tt), ((passing_send, tt), ((finishing_send, tt), tt)))))))
+http_stage_send = variants_send HttpStage.enum ((http_head.the_send, tt), ((http_body.the_send, tt), ((http_refusing_send, tt), ((asking_send, tt), ((gathering_send, tt), ((giving_send, tt), ((failing_send, tt), ((passing_send, tt), ((finishing_send, tt), tt)))))))))
+
+pub phase_send : IsSend Phase.the_row
+phase_send = variants_send Phase.enum ((http_stage_send, tt), ((held_send, tt), tt))
 
 module _ (ℓ : NamedLft) (L D C : RattleType) (g : link.Ghosts L.Denot) (h : dial.Ghosts D.Denot) (i : clock.Ghosts C.Denot) (l : IsSend L) (d : IsSend D) (c : IsSend C) where
   pub line_send : IsSend (Line.the_row D h)
@@ -154,10 +209,10 @@ module _ (ℓ : NamedLft) (L D C : RattleType) (g : link.Ghosts L.Denot) (h : di
   watch_send = view_send _ _ _ _ _ (declared_send (WatchInside.the_type C i) (search (c, sendable) depth 20, (kept C, (search sendable depth 20, tt))))
 
   pub http_live_send : IsSend (HttpLive.the_row ℓ L D C g h i)
-  http_live_send = view_send _ _ _ _ _ (declared_send (HttpLiveInside.the_type ℓ L D C g h i) (search crosses depth 20, (wire_send ℓ L g l, (line_send, (watch_send, (seat_send ℓ, (search (routes.the_sync, sendable) depth 20, (search (signer.the_sync, sendable) depth 20, (body_bytes.the_send, tt)))))))))
+  http_live_send = view_send _ _ _ _ _ (declared_send (HttpLiveInside.the_type ℓ L D C g h i) (search crosses depth 20, (wire_send ℓ L g l, (line_send, (watch_send, (seat_send ℓ, (search (routes.the_sync, sendable) depth 20, (search (signer.the_sync, sendable) depth 20, (body_bytes.the_send, (search (list.the_send, report.the_send, sendable) depth 20, tt))))))))))
 
   pub http_open_send : IsSend (HttpOpen.the_row ℓ L D C g h i)
-  http_open_send = view_send _ _ _ _ _ (declared_send (HttpOpenInside.the_type ℓ L D C g h i) (http_live_send, (http_stage_send, tt)))
+  http_open_send = view_send _ _ _ _ _ (declared_send (HttpOpenInside.the_type ℓ L D C g h i) (http_live_send, (phase_send, tt)))
 
   pub devices_send : IsSend (Devices.the_row L D C g h i)
   devices_send = view_send _ _ _ _ _ (declared_send (DevicesInside.the_type L D C g h i) (search (l, sendable) depth 20, (search (d, sendable) depth 20, (search (c, sendable) depth 20, tt))))

@@ -21,15 +21,15 @@ impl<'h, K: Kit> Session for Serving<'h, K> {
     ghost may_give = { λ s over. IfSome s.session (λ session. GivesClient K.Listen.Link.tells K.Dial.tells K.Clock.tells session over) };
 
     fn poll(&mut self) -> Polled<Over<K>> {
-        let Some(mut session) = self.session.take() else {
+        let Some(session) = &mut self.session else {
             unreachable!()
         };
         let finish = match session.poll() {
-            Polled::Pending => {
-                self.session = Some(session);
-                return Polled::Pending;
-            }
+            Polled::Pending => return Polled::Pending,
             Polled::Ready(finish) => finish,
+        };
+        let Some(session) = self.session.take() else {
+            unreachable!()
         };
         match (finish, session.parts()) {
             (Finish::Done(outcome), Some((link, dial, clock))) => Polled::Ready(Finished {

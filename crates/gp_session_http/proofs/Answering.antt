@@ -39,7 +39,7 @@ use Rattle.gp_session_http.specs.declared.stage.Ended.{Ended}
 use Rattle.gp_session_http.specs.declared.stage.Next.TheVariants.{Go, Wait, End}
 use Rattle.gp_answer.specs.declared.refusal.Refusal.TheVariants.{BadGateway}
 use Rattle.gp_session_http.specs.Routing.{IsRouted, IsServed, refusal_text}
-use Rattle.gp_session_http.specs.Asking.{IsAskedFor, BeginsFor, IsAskable, ExpectsHead, FailsBy, why_failed}
+use Rattle.gp_session_http.specs.Asking.{IsAskedFor, BeginsFor, IsAskable, ExpectsHead, IsUnpassed, FailsBy, why_failed}
 use Rattle.gp_session_http.specs.Views.{LiveView, Moved}
 use Rattle.gp_session_http.specs.Trace.{Serves, IsUnasked, WasAsked, Told}
 use Rattle.gp_session_http.specs.Moves.{waits, Used, Leads, IsUnanswered, IsServedAt, HasAsked, said, IsSpeakingAt, HasHeadOf, IsAnsweredAt, IsFailedAt}
@@ -57,7 +57,7 @@ askable law l w address at asked same to =
 
 -- the clock was asked once
 was_asked : (v w : WatchView) (now : ℕ) → IsUnasked v → WatchRow v → (WatchRow v → WatchRow w) → Uses v w now → WasAsked w now
-was_asked v w now un row on uses = record { last = on row now uses.moment; calls = by_move uses.moved.moved }
+was_asked v w now un row on uses = record { last = on row now uses.moment; calls = by_move uses.moved.moved; row = on row }
   where
     by_move : (w ≡ v) ⊎ AsksClock v w → Rose w.start.calls w.clock.calls
     by_move (inl same) = let none : None ≡ Some now = sym un.moment ∙ sym (ap (λ (x : WatchView). x.moment) same) ∙ uses.moment in let no : ⊥ = cc in absurd no
@@ -219,37 +219,37 @@ module _ (v : LiveView) (w : WireView) (s : AskingStage) (y : Why) (start : w.st
   abbrev method_of : Asked → List ℕ
   method_of a = a.request.head.method
 
-  rows_of : (text : Asked → List ℕ) → HasAsked (with_wire v w) s.asked s.exchange (hung (said s.exchange [])) (text s.asked) → HasAsked (with_wire v w) t.asked.value t.exchange.value (hung (said t.exchange.value [])) (text t.asked.value)
-  rows_of text r = subst (λ (x : ExchangeView). HasAsked (with_wire v w) t.asked.value x (hung (said x [])) (text t.asked.value)) (sym exchange)
-      (subst (λ (a : Asked). HasAsked (with_wire v w) a s.exchange (hung (said s.exchange [])) (text a)) (sym asked) r)
+  rows_of : (text : Asked → List ℕ) → HasAsked (with_wire v w) s.asked s.exchange (hung (said s.exchange failed.given)) (text s.asked) → HasAsked (with_wire v w) t.asked.value t.exchange.value (hung (said t.exchange.value failed.given)) (text t.asked.value)
+  rows_of text r = subst (λ (x : ExchangeView). HasAsked (with_wire v w) t.asked.value x (hung (said x failed.given)) (text t.asked.value)) (sym exchange)
+      (subst (λ (a : Asked). HasAsked (with_wire v w) a s.exchange (hung (said s.exchange failed.given)) (text a)) (sym asked) r)
 
-  fails_of : FailsBy v.line (method_of t.asked.value) t.exchange.value t.why
-  fails_of = subst (λ (z : Why). FailsBy v.line (method_of t.asked.value) t.exchange.value z) (sym is)
-      (subst (λ (x : ExchangeView). FailsBy v.line (method_of t.asked.value) x y) (sym exchange) (subst (λ (a : Asked). FailsBy v.line (method_of a) s.exchange y) (sym asked) failed.fails))
+  fails_of : FailsBy v.line (method_of t.asked.value) t.exchange.value failed.given t.why
+  fails_of = subst (λ (z : Why). FailsBy v.line (method_of t.asked.value) t.exchange.value failed.given z) (sym is)
+      (subst (λ (x : ExchangeView). FailsBy v.line (method_of t.asked.value) x failed.given y) (sym exchange) (subst (λ (a : Asked). FailsBy v.line (method_of a) s.exchange failed.given y) (sym asked) failed.fails))
 
-  pub failed_go : w.rest ≡ v.wire.rest ++ refusal_text BadGateway (method_of s.asked) → Leads v (with_wire v w) 3 (Go (Failing t))
+  pub failed_go : w.rest ≡ v.wire.rest ++ refusal_text BadGateway (method_of s.asked) → Leads v (with_wire v w) 2 (Go (Failing t))
   failed_go rest =
       let text = refusal_text BadGateway (method_of s.asked) in
-      let r = rows_of (λ (a : Asked). refusal_text BadGateway (method_of a)) (put_on v w start link s.asked s.exchange (hung (said s.exchange [])) [] failed.rows text rest) in
+      let r = rows_of (λ (a : Asked). refusal_text BadGateway (method_of a)) (put_on v w start link s.asked s.exchange (hung (said s.exchange failed.given)) [] failed.rows text rest) in
       record {
         moved = moved_by_put v w text start link rest;
         to = (
-          record { given = []; parts = []; cut = no_parts; request = r.request; talks = r.talks; aim = r.aim; at = fails_of; bytes = r.bytes; times = r.times; stays = r.stays },
+          record { given = failed.given; parts = failed.parts; cut = failed.cut; request = r.request; talks = r.talks; aim = r.aim; at = fails_of; bytes = r.bytes; times = r.times; stays = r.stays },
           omega arith,
         );
       }
 
-  pub failed_end : w.rest ≡ v.wire.rest → (ended : Ended) → ended ≡ record { end = end.NoMemory; why = y } → Leads v (with_wire v w) 3 (End ended)
+  pub failed_end : w.rest ≡ v.wire.rest → (ended : Ended) → ended ≡ record { end = end.NoMemory; why = y } → Leads v (with_wire v w) 2 (End ended)
   failed_end rest ended same =
-      let r = rows_of (λ (a : Asked). []) (put_none v w start link s.asked s.exchange (hung (said s.exchange [])) [] failed.rows rest) in
-      subst (λ (x : Ended). Leads v (with_wire v w) 3 (End x)) (sym same) (record {
+      let r = rows_of (λ (a : Asked). []) (put_none v w start link s.asked s.exchange (hung (said s.exchange failed.given)) [] failed.rows rest) in
+      subst (λ (x : Ended). Leads v (with_wire v w) 2 (End x)) (sym same) (record {
         moved = moved_unput v w start link rest;
         to = record {
           stage = Failing t;
           told = record {
-            given = [];
-            parts = [];
-            cut = no_parts;
+            given = failed.given;
+            parts = failed.parts;
+            cut = failed.cut;
             request = record { received = r.request.received; since = r.request.since; asks = record { used = r.request.received; unused = []; split = sym (append-nil r.request.received); asks = r.request.asks } };
             talks = r.talks;
             aim = r.aim;
@@ -264,13 +264,13 @@ module _ (v : LiveView) (w : WireView) (s : AskingStage) (y : Why) (start : w.st
       })
 
 -- why there is no response
-pub faulted : (l m : LineView) (method : List ℕ) (x y : ExchangeView) (f : ExchangeFault) → ExpectsHead x → MovedLine l m → l.start.faults ≤ l.dial.faults → Gives x.place y.place l.dial m.dial (Fault f) → head_of y.place ≡ head_of x.place → FailsBy m method y (why_failed f)
-faulted l m method x y fault.Dial at moved le g same =
-    record { over = g.0; none = same ∙ at.none; faults = subst (λ (t : DialTells). Rose t.faults m.dial.faults) (sym moved.start) (rose_from l.start.faults l.dial.faults m.dial.faults le (g.1 (omega (arith, at.early)))) }
-faulted l m method x y fault.Head at moved le g same = record { fault = fault.Head; over = g.0; none = same ∙ at.none; bytes = tt }
-faulted l m method x y fault.Interim at moved le g same = record { fault = fault.Interim; over = g.0; none = same ∙ at.none; bytes = tt }
-faulted l m method x y (fault.Plan p) at moved le g same = record { fault = fault.Plan p; over = g.0; none = same ∙ at.none; bytes = tt }
-faulted l m method x y (fault.Body b) at moved le g same = record { fault = fault.Body b; over = g.0; none = same ∙ at.none; bytes = tt }
+pub faulted : (l m : LineView) (method : List ℕ) (x y : ExchangeView) (f : ExchangeFault) (given : List ℕ) → rank x.place < 5 → IsUnpassed method y → MovedLine l m → l.start.faults ≤ l.dial.faults → Gives x.place y.place l.dial m.dial (Fault f) → FailsBy m method y given (why_failed f)
+faulted l m method x y fault.Dial given early un moved le g =
+    record { over = g.0; unpassed = un; faults = subst (λ (t : DialTells). Rose t.faults m.dial.faults) (sym moved.start) (rose_from l.start.faults l.dial.faults m.dial.faults le (g.1 early)) }
+faulted l m method x y fault.Head given early un moved le g = inl (record { fault = fault.Head; over = g.0; unpassed = un; bytes = tt })
+faulted l m method x y fault.Interim given early un moved le g = inl (record { fault = fault.Interim; over = g.0; unpassed = un; bytes = tt })
+faulted l m method x y (fault.Plan p) given early un moved le g = inl (record { fault = fault.Plan p; over = g.0; unpassed = un; bytes = tt })
+faulted l m method x y (fault.Body b) given early un moved le g = inl (record { fault = fault.Body b; over = g.0; unpassed = un; bytes = tt })
 
 -- a head that isn't there yet is still expected
 pub still_expects : (x y : ExchangeView) (old now : DialTells) → Gives x.place y.place old now NotReady → head_of y.place ≡ head_of x.place → ExpectsHead x → ExpectsHead y

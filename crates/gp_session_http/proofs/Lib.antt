@@ -3,4 +3,9 @@ pub mod Putting
 pub mod Hearing
 pub mod Answering
 pub mod Sending
+pub mod Granting
+pub mod Collecting
+pub mod Keeping
+pub mod Headlining
 pub mod Turning
+pub mod Ending

@@ -15,10 +15,10 @@ use Rattle.gp_session.specs.Lines.{LineView, MovedLine, LineRow}
 use Rattle.gp_session.specs.Watches.{WatchView}
 use Rattle.gp_session.proofs.Moving.{rose_since, later_since, request_same, sent_flushed, sent_put, sent_same, moved_flushed, moved_put, moved_seat_same, moved_seat_again, moved_wire_same, moved_wire_again, read_waited_from, write_waited_from}
 use Rattle.gp_session_http.specs.declared.stage.Stage.{Stage}
-use Rattle.gp_session_http.specs.declared.stage.Stage.TheVariants.{ReadingHead, ReadingBody, Refusing, Asking, Failing, Passing, Finishing}
+use Rattle.gp_session_http.specs.declared.stage.Stage.TheVariants.{ReadingHead, ReadingBody, Refusing, Asking, Gathering, Giving, Failing, Passing, Finishing}
 use Rattle.gp_session_http.specs.declared.stage.Ended.{Ended}
 use Rattle.gp_session_http.specs.declared.stage.Next.{Next}
-use Rattle.gp_session_http.specs.declared.stage.Next.TheVariants.{Go, Wait, End}
+use Rattle.gp_session_http.specs.declared.stage.Next.TheVariants.{Go, Wait, Hold, End}
 use Rattle.gp_session_http.specs.Routing.{Charter}
 use Rattle.gp_session_http.specs.Passing.{ArePartsOf}
 use Rattle.gp_session_http.specs.Views.{LiveView, Moved, SaysMore}
@@ -26,13 +26,13 @@ use Rattle.gp_session_http.specs.Trace.{Asks, last_of, HasAim, IsAt, text_of, mo
 use Rattle.gp_session_http.specs.Moves.{IsReading, IsTalking, DialWaited, HasCode, EndSays, why_at, PassedOn, HasPassed, Pends, passed, waits, Used, AsksAtEnd, IsAtEnd, TimesAtEnd, shape_at_end, hung_up, ToldAtEnd, LeadsTo, Leads}
 
 abbrev pub with_wire : LiveView → WireView → LiveView
-with_wire v w = record { wire = w; line = v.line; watch = v.watch; seat = v.seat; charter = v.charter }
+with_wire v w = record { wire = w; line = v.line; watch = v.watch; seat = v.seat; charter = v.charter; reports = v.reports }
 
 abbrev pub with_line : LiveView → LineView → LiveView
-with_line v l = record { wire = v.wire; line = l; watch = v.watch; seat = v.seat; charter = v.charter }
+with_line v l = record { wire = v.wire; line = l; watch = v.watch; seat = v.seat; charter = v.charter; reports = v.reports }
 
 abbrev pub with_watch : LiveView → WatchView → LiveView
-with_watch v w = record { wire = v.wire; line = v.line; watch = w; seat = v.seat; charter = v.charter }
+with_watch v w = record { wire = v.wire; line = v.line; watch = w; seat = v.seat; charter = v.charter; reports = v.reports }
 
 -- what is said grows
 
@@ -50,10 +50,10 @@ says_again u v w a b h k = λ text s. subst (Sent w) (append_assoc text a b) (k 
 
 -- moves, and moves one after another
 
-line_same : (l : LineView) → MovedLine l l
+pub line_same : (l : LineView) → MovedLine l l
 line_same l = record { start = refl; later = dial_same l.dial }
 
-line_again : (k l m : LineView) → MovedLine k l → MovedLine l m → MovedLine k m
+pub line_again : (k l m : LineView) → MovedLine k l → MovedLine l m → MovedLine k m
 line_again k l m a b = record { start = b.start ∙ a.start; later = dial_later k.dial l.dial m.dial a.later b.later }
 
 pub moved_over : (v : LiveView) (w : WireView) (more : List ℕ) → MovedWire v.wire w → SaysMore v.wire w more → Moved v (with_wire v w)
@@ -115,12 +115,13 @@ moved_unput v w start link rest = moved_over v w [] (moved_put v.wire w start li
 -- what stays
 
 pub stays_wire : (v : LiveView) (w : WireView) → MovedWire v.wire w → Stays v → Stays (with_wire v w)
-stays_wire v w m s = record { entries = s.entries; holds = s.holds; seat = s.seat; served = s.served; links = later_since v.wire w s.links m; dials = s.dials }
+stays_wire v w m s = record { entries = s.entries; holds = s.holds; reports = s.reports; seat = s.seat; served = s.served; links = later_since v.wire w s.links m; dials = s.dials }
 
 pub stays_line : (v : LiveView) (l : LineView) → MovedLine v.line l → Stays v → Stays (with_line v l)
 stays_line v l m s = record {
   entries = s.entries;
   holds = s.holds;
+  reports = s.reports;
   seat = s.seat;
   served = s.served;
   links = s.links;
@@ -128,7 +129,7 @@ stays_line v l m s = record {
 }
 
 pub stays_watch : (v : LiveView) (w : WatchView) → Stays v → Stays (with_watch v w)
-stays_watch v w s = record { entries = s.entries; holds = s.holds; seat = s.seat; served = s.served; links = s.links; dials = s.dials }
+stays_watch v w s = record { entries = s.entries; holds = s.holds; reports = s.reports; seat = s.seat; served = s.served; links = s.links; dials = s.dials }
 
 pub no_parts : ArePartsOf [] []
 no_parts = record { some = All-nil _; joined = refl }
@@ -142,7 +143,7 @@ pub request_used : (w : WireView) (c : Charter) (stage : Stage) → RequestRow w
 request_used w c stage r = record { received = r.received; since = r.since; asks = used_all c stage r.received r.asks }
 
 rows_at_end : (e : SessionEnd) (l : LiveView) (stage : Stage) (t : Told l stage) → (IsIdle l.line.start → LineRow l.line [] (hung_up (last_of stage t.given)))
-    → RequestRow l.wire (AsksAtEnd e l.charter stage) → IsAtEnd e l stage t.parts → BytesRow l.wire (shape_at_end e (text_of stage t.parts)) → TimesAtEnd e l stage → ToldAtEnd e l stage
+    → RequestRow l.wire (AsksAtEnd e l.charter stage) → IsAtEnd e l stage t.given t.parts → BytesRow l.wire (shape_at_end e (text_of stage t.parts)) → TimesAtEnd e l stage → ToldAtEnd e l stage
 rows_at_end e l stage t talks request at bytes times =
     record { given = t.given; parts = t.parts; cut = t.cut; request = request; talks = talks; aim = t.aim; at = at; bytes = bytes; times = times; stays = t.stays }
 
@@ -217,6 +218,8 @@ passed_from u v w (ReadingHead s) m p = p
 passed_from u v w (ReadingBody s) m p = p
 passed_from u v w (Refusing s) m p = p
 passed_from u v w (Asking s) m p = p
+passed_from u v w (Gathering s) m p = p
+passed_from u v w (Giving s) m p = p
 passed_from u v w (Failing s) m p = p
 passed_from u v w (Passing s) m p = record {
   parts = p.parts;
@@ -232,6 +235,8 @@ dial_waited_from u v w (ReadingHead s) m d = tt
 dial_waited_from u v w (ReadingBody s) m d = tt
 dial_waited_from u v w (Refusing s) m d = tt
 dial_waited_from u v w (Asking s) m d = waits_from u.line.dial v.line.dial w.line.dial m.line.later s.exchange.place d
+dial_waited_from u v w (Gathering s) m d = waits_from u.line.dial v.line.dial w.line.dial m.line.later s.exchange.place d
+dial_waited_from u v w (Giving s) m d = tt
 dial_waited_from u v w (Failing s) m d = tt
 dial_waited_from u v w (Passing s) m d = waits_from u.line.dial v.line.dial w.line.dial m.line.later s.exchange.place d
 dial_waited_from u v w (Finishing s) m d = tt
@@ -248,6 +253,7 @@ pends_from u v w stage m (waits c) = waits (record {
 leads_to_from : (u v w : LiveView) (k n : ℕ) (next : Next) → Moved u v → k ≤ n → LeadsTo v w k next → LeadsTo u w n next
 leads_to_from u v w k n (Go stage) m le l = (l.0, omega (arith, le, l.1))
 leads_to_from u v w k n (Wait stage) m le l = (l.0, pends_from u v w stage m l.1)
+leads_to_from u v w k n (Hold stage) m le l = l
 leads_to_from u v w k n (End ended) m le l = l
 
 -- a move after those before it

@@ -1,5 +1,5 @@
 -- What is asked of an origin for a client, and why an origin's answer can't be passed on.
-use Rattle.std.specs.Prelude.{◌≡◌, ◌≢◌, ℕ, ◌+◌, ◌-◌, ◌^◌, ◌<◌, ◌⊎◌, min, Bool, true, false, List, [], bytes_eq, codes, Option, Some, None, option_map, Result, Ok, Err, ⊤}
+use Rattle.std.specs.Prelude.{◌≡◌, ◌≢◌, ℕ, ◌+◌, ◌-◌, ◌^◌, ◌<◌, ◌⊎◌, min, Bool, true, false, List, [], length, bytes_eq, codes, Option, Some, None, option_map, Result, Ok, Err, ⊤}
 use Rattle.gp_plain.specs.declared.http.Address.{Address}
 use Rattle.gp_plain.specs.declared.http.Request.{Request}
 use Rattle.gp_plain.specs.declared.http.Response.{Response}
@@ -13,10 +13,14 @@ use Rattle.gp_sig.specs.Tokens.{token_of}
 use Rattle.gp_forward.specs.Alone.{IsForwarded}
 use Rattle.gp_forward.specs.Conditions.{CanAsk}
 use Rattle.gp_instruct.specs.declared.instruct.Instruct.{Instruct}
+use Rattle.gp_instruct.specs.declared.instruct.Mode.{Mode as Hold}
+use Rattle.gp_instruct.specs.declared.instruct.Mode.TheVariants.{Stream as Open, Response as Poll}
 use Rattle.gp_instruct.specs.declared.fault.InstructFault.{InstructFault}
 use Rattle.gp_instruct.specs.declared.fault.InstructFault.TheVariants.{NoMemory as OutOfMemory}
 use Rattle.gp_instruct.specs.Heads.{IsInstruct, IsInstructFault}
 use Rattle.gp_instruct_json.specs.Kinds.{has_type}
+use Rattle.gp_instruct_json.specs.Answers.{IsAnswer, IsAnswerRefused}
+use Rattle.gp_instruct_json.specs.declared.answer.Answer.{Answer}
 use Rattle.gp_outside.specs.Counts.{Rose}
 use Rattle.gp_hub.specs.declared.outcome.Why.{Why}
 use Rattle.gp_hub.specs.declared.outcome.Why.TheVariants as why
@@ -30,8 +34,10 @@ use Rattle.gp_exchange.specs.declared.place.Place.TheVariants.{Unbegun}
 use Rattle.gp_intake.specs.declared.body.Whole.{Whole}
 use Rattle.gp_session.specs.Lines.{LineView}
 use Rattle.gp_session_http.specs.declared.asked.Asked.{Asked}
+use Rattle.gp_session_http.specs.declared.grant.Wish.TheVariants.{LongStream, Other}
+use Rattle.gp_session_http.specs.Wishes.{IsWish, most_gathered}
 use Rattle.gp_session_http.specs.declared.verdict.Verdict.{Verdict}
-use Rattle.gp_session_http.specs.declared.verdict.Verdict.TheVariants.{Pass, Refuse, NoMemory}
+use Rattle.gp_session_http.specs.declared.verdict.Verdict.TheVariants.{Pass, Gather, Refuse, NoMemory}
 
 -- a request that was planned to have a body is forwarded with it
 abbrev pub body_sent : Result BodyPlan BodyFault → List ℕ → Option (List ℕ)
@@ -91,21 +97,30 @@ pub record IsPassedWith (head : Response) (status : Option ℕ) : Type 0 where
 abbrev pub IsPassed : List ℕ → Response → Option ℕ → Type 0
 IsPassed method head status = ((is_head method ≡ true) × (status ≡ None)) ⊎ ((is_head method ≡ false) × IsPassedWith head status)
 
--- an answer that isn't passed on: its instruction is refused. So is one that asks for a hold, or for anything in its body, until
--- holds are served
+-- an answer whose body is gathered: it is an instruction, or its fields ask for a stream
+abbrev pub AsksInFields : Response → Hold → Type 0
+AsksInFields head mode = (has_type head.fields ≡ false) × ((i : Instruct) × IsInstruct head.fields (Some i) × (i.mode ≡ Some mode))
+
+abbrev pub AsksToGather : Response → Type 0
+AsksToGather head = (has_type head.fields ≡ true) ⊎ AsksInFields head Open
+
+abbrev pub IsGathered : List ℕ → Response → Type 0
+IsGathered method head = (is_head method ≡ false) × AsksToGather head
+
+-- an answer that isn't passed on: its instruction is refused. So is one that asks for a long poll, until those are served
 abbrev pub IsInstructRefused : Response → Type 0
-IsInstructRefused head = (has_type head.fields ≡ true)
-    ⊎ (((f : InstructFault) × IsInstructFault head.fields f × (f ≢ OutOfMemory))
-    ⊎ ((i : Instruct) × IsInstruct head.fields (Some i) × (i.mode ≢ None)))
+IsInstructRefused head = (has_type head.fields ≡ false) × (((f : InstructFault) × IsInstructFault head.fields f × (f ≢ OutOfMemory)) ⊎ ((i : Instruct) × IsInstruct head.fields (Some i) × (i.mode ≡ Some Poll)))
 
 abbrev pub IsVerdict : List ℕ → Response → Verdict → Type 0
 IsVerdict method head (Pass status) = IsPassed method head status
+IsVerdict method head Gather = IsGathered method head
 IsVerdict method head Refuse = (is_head method ≡ false) × IsInstructRefused head
 IsVerdict method head NoMemory = ⊤
 
 -- the same where the answer isn't to HEAD
 abbrev pub IsReadVerdict : Response → Verdict → Type 0
 IsReadVerdict head (Pass status) = IsPassedWith head status
+IsReadVerdict head Gather = AsksToGather head
 IsReadVerdict head Refuse = IsInstructRefused head
 IsReadVerdict head NoMemory = ⊤
 
@@ -125,32 +140,63 @@ why_failed fault.Interim = why.Origin
 why_failed (fault.Plan f) = why.Origin
 why_failed (fault.Body f) = why.Origin
 
--- before a head was given the dialer failed, or the bytes of the talk are no response
-pub record FailsByDial (l : LineView) (x : ExchangeView) : Type 0 where
+-- the head of an answer whose body is gathered was given
+pub record HasGatheredHead (method : List ℕ) (x : ExchangeView) (head : Response) : Type 0 where
+  pub given : head_of x.place ≡ Some head
+  pub gathered : IsGathered method head
+
+-- nothing of the answer was passed on: no head was given, or its body is gathered
+abbrev pub IsUnpassed : List ℕ → ExchangeView → Type 0
+IsUnpassed method x = (head_of x.place ≡ None) ⊎ ((head : Response) × HasGatheredHead method x head)
+
+-- the dialer failed, or the bytes of the talk are no response
+pub record FailsByDial (l : LineView) (method : List ℕ) (x : ExchangeView) : Type 0 where
   pub over : IsOverBy (last.Fault fault.Dial) x.place
-  pub none : head_of x.place ≡ None
+  pub unpassed : IsUnpassed method x
   pub faults : Rose l.start.faults l.dial.faults
 
-pub record FailsByOrigin (x : ExchangeView) : Type 0 where
+pub record FailsByBytes (method : List ℕ) (x : ExchangeView) : Type 0 where
   pub fault : ExchangeFault
   pub over : IsOverBy (last.Fault fault) x.place
-  pub none : head_of x.place ≡ None
+  pub unpassed : IsUnpassed method x
   pub bytes : IsOriginFault fault
 
+-- the content that was gathered is too long
+pub record FailsByLength (method : List ℕ) (x : ExchangeView) (content : List ℕ) : Type 0 where
+  pub head : Response
+  pub has : HasGatheredHead method x head
+  pub long : most_gathered head < length content
+
+-- or the opening that it gives is
+pub record FailsByOpening (method : List ℕ) (x : ExchangeView) (content : List ℕ) : Type 0 where
+  pub head : Response
+  pub has : HasGatheredHead method x head
+  pub over : IsOverBy last.End x.place
+  pub answer : Answer
+  pub read : IsAnswer head content answer
+  pub wish : IsWish answer LongStream
+
 -- the head that was given is refused
-pub record FailsByInstruct (method : List ℕ) (x : ExchangeView) : Type 0 where
+pub record FailsByHead (method : List ℕ) (x : ExchangeView) : Type 0 where
   pub head : Response
   pub given : head_of x.place ≡ Some head
   pub get : is_head method ≡ false
   pub refused : IsInstructRefused head
 
-abbrev pub FailsBy : LineView → List ℕ → ExchangeView → Why → Type 0
-FailsBy l method x why.Nothing = ⊥
-FailsBy l method x why.Head = ⊥
-FailsBy l method x why.Body = ⊥
-FailsBy l method x why.Route = ⊥
-FailsBy l method x why.Dial = FailsByDial l x
-FailsBy l method x why.Origin = FailsByOrigin x
-FailsBy l method x why.Instruct = FailsByInstruct method x
-FailsBy l method x (why.Items place) = ⊥
-FailsBy l method x why.Full = ⊥
+-- or what the whole content asks for is; so is a long poll, until those are served
+pub record FailsByContent (method : List ℕ) (x : ExchangeView) (content : List ℕ) : Type 0 where
+  pub head : Response
+  pub has : HasGatheredHead method x head
+  pub over : IsOverBy last.End x.place
+  pub refused : IsAnswerRefused head content ⊎ ((answer : Answer) × IsAnswer head content answer × IsWish answer Other)
+
+abbrev pub FailsBy : LineView → List ℕ → ExchangeView → List ℕ → Why → Type 0
+FailsBy l method x content why.Nothing = ⊥
+FailsBy l method x content why.Head = ⊥
+FailsBy l method x content why.Body = ⊥
+FailsBy l method x content why.Route = ⊥
+FailsBy l method x content why.Dial = FailsByDial l method x
+FailsBy l method x content why.Origin = FailsByBytes method x ⊎ (FailsByLength method x content ⊎ FailsByOpening method x content)
+FailsBy l method x content why.Instruct = FailsByHead method x ⊎ FailsByContent method x content
+FailsBy l method x content (why.Items place) = ⊥
+FailsBy l method x content why.Full = ⊥

@@ -1,7 +1,12 @@
 pub mod Routing
+pub mod Wishes
 pub mod Asking
 pub mod Passing
+pub mod Grants
+pub mod Givings
 pub mod Views
 pub mod Trace
+pub mod Holding
+pub mod Headlines
 pub mod Moves
 pub mod Polls

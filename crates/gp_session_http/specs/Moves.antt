@@ -24,20 +24,26 @@ use Rattle.gp_session.specs.Lines.{Said, Last, idle, speaking, hung, LineRow}
 use Rattle.gp_session.specs.Causes.{ReadWaited, WriteWaited, HasFailed, HasEnded}
 use Rattle.gp_session_http.specs.declared.cause.Cause.{Cause}
 use Rattle.gp_session_http.specs.declared.stage.Stage.{Stage}
-use Rattle.gp_session_http.specs.declared.stage.Stage.TheVariants.{ReadingHead, ReadingBody, Refusing, Asking, Failing, Passing, Finishing}
+use Rattle.gp_session_http.specs.declared.stage.Stage.TheVariants.{ReadingHead, ReadingBody, Refusing, Asking, Gathering, Giving, Failing, Passing, Finishing}
 use Rattle.gp_session_http.specs.declared.stage.Ended.{Ended}
 use Rattle.gp_session_http.specs.declared.stage.Next.{Next}
-use Rattle.gp_session_http.specs.declared.stage.Next.TheVariants.{Go, Wait, End}
+use Rattle.gp_session_http.specs.declared.stage.Next.TheVariants.{Go, Wait, Hold, End}
 use Rattle.gp_session_http.specs.declared.passing.Step.{Step}
 use Rattle.gp_session_http.specs.declared.passing.Step.TheVariants as step
 use Rattle.gp_session_http.specs.declared.asked.Asked.{Asked}
 use Rattle.gp_session_http.specs.declared.asking.Asking.{Asking as AskingStage}
 use Rattle.gp_session_http.specs.declared.passing.Passing.{Passing as PassingStage}
-use Rattle.gp_session_http.specs.Asking.{IsAskedFor, FailsBy}
+use Rattle.gp_session_http.specs.declared.gathering.Gathering.{Gathering as GatheringStage}
+use Rattle.gp_session_http.specs.declared.gathering.Gathered.{Gathered}
+use Rattle.gp_session_http.specs.declared.gathering.Gathered.TheVariants as gathered
+use Rattle.gp_instruct_json.specs.Answers.{IsAnswer}
+use Rattle.gp_instruct_json.specs.declared.answer.Answer.{Answer}
+use Rattle.gp_session_http.specs.Asking.{IsAskedFor, HasGatheredHead, FailsBy}
 use Rattle.gp_session_http.specs.Routing.{Charter, IsRefusedFor, IsServed, refusal_of, why_of}
 use Rattle.gp_session_http.specs.Passing.{ArePartsOf, asked_of, origin_head, has_no_body, IsPassedOn, passed_text, head_by}
 use Rattle.gp_session_http.specs.Views.{LiveView, Moved, SaysMore}
-use Rattle.gp_session_http.specs.Trace.{Serves, IsPassing, Asks, last_of, HasAim, IsAt, text_of, moment_of, IsUnasked, TimesRow, Stays, Told}
+use Rattle.gp_session_http.specs.Holding.{AttachingTold}
+use Rattle.gp_session_http.specs.Trace.{Serves, IsPassing, IsGathering, Asks, last_of, HasAim, IsAt, text_of, moment_of, IsUnasked, TimesRow, Stays, Told}
 
 -- how many moves that go on may follow, at the most
 abbrev pub rank : Stage → ℕ
@@ -45,6 +51,8 @@ rank (ReadingHead s) = 5
 rank (ReadingBody s) = 4
 rank (Refusing s) = 1
 rank (Asking s) = 3
+rank (Gathering s) = 2
+rank (Giving s) = 1
 rank (Failing s) = 1
 rank (Passing s) = 2
 rank (Finishing s) = 1
@@ -55,6 +63,8 @@ IsReading (ReadingHead s) = ⊤
 IsReading (ReadingBody s) = ⊤
 IsReading (Refusing s) = ⊥
 IsReading (Asking s) = ⊥
+IsReading (Gathering s) = ⊥
+IsReading (Giving s) = ⊥
 IsReading (Failing s) = ⊥
 IsReading (Passing s) = ⊥
 IsReading (Finishing s) = ⊥
@@ -64,6 +74,8 @@ IsUnread (ReadingHead s) = ⊤
 IsUnread (ReadingBody s) = IsOpen s.intake.body.reading
 IsUnread (Refusing s) = ⊤
 IsUnread (Asking s) = ⊤
+IsUnread (Gathering s) = ⊤
+IsUnread (Giving s) = ⊤
 IsUnread (Failing s) = ⊤
 IsUnread (Passing s) = ⊤
 IsUnread (Finishing s) = ⊤
@@ -74,6 +86,8 @@ IsTalking l (ReadingHead s) = ⊥
 IsTalking l (ReadingBody s) = ⊥
 IsTalking l (Refusing s) = ⊥
 IsTalking l (Asking s) = ⊤
+IsTalking l (Gathering s) = ⊤
+IsTalking l (Giving s) = ⊥
 IsTalking l (Failing s) = ⊥
 IsTalking l (Passing s) = l.wire.rest ≡ []
 IsTalking l (Finishing s) = ⊥
@@ -84,6 +98,8 @@ DialWaited v w (ReadingHead s) = ⊤
 DialWaited v w (ReadingBody s) = ⊤
 DialWaited v w (Refusing s) = ⊤
 DialWaited v w (Asking s) = Waits s.exchange.place v.line.dial w.line.dial
+DialWaited v w (Gathering s) = Waits s.exchange.place v.line.dial w.line.dial
+DialWaited v w (Giving s) = ⊤
 DialWaited v w (Failing s) = ⊤
 DialWaited v w (Passing s) = Waits s.exchange.place v.line.dial w.line.dial
 DialWaited v w (Finishing s) = ⊤
@@ -108,6 +124,8 @@ HasPassed v w (ReadingHead s) = ⊥
 HasPassed v w (ReadingBody s) = ⊥
 HasPassed v w (Refusing s) = ⊥
 HasPassed v w (Asking s) = ⊥
+HasPassed v w (Gathering s) = ⊥
+HasPassed v w (Giving s) = ⊥
 HasPassed v w (Failing s) = ⊥
 HasPassed v w (Passing s) = PassedOn v w s.passed.chunked 16
 HasPassed v w (Finishing s) = ⊥
@@ -133,12 +151,12 @@ AsksAtEnd ClientGone c stage received = Asks c stage received
 AsksAtEnd Worn c stage received = Asks c stage received
 AsksAtEnd NoMemory c stage received = Used c stage received
 
-abbrev pub IsAtEnd : SessionEnd → LiveView → Stage → List (List ℕ) → Type 0
-IsAtEnd (WasSent code) l stage parts = IsAt l.line stage parts
-IsAtEnd (Cut cause) l stage parts = IsAt l.line stage parts
-IsAtEnd ClientGone l stage parts = IsAt l.line stage parts
-IsAtEnd Worn l stage parts = IsAt l.line stage parts
-IsAtEnd NoMemory l stage parts = ⊤
+abbrev pub IsAtEnd : SessionEnd → LiveView → Stage → List ℕ → List (List ℕ) → Type 0
+IsAtEnd (WasSent code) l stage given parts = IsAt l.line stage given parts
+IsAtEnd (Cut cause) l stage given parts = IsAt l.line stage given parts
+IsAtEnd ClientGone l stage given parts = IsAt l.line stage given parts
+IsAtEnd Worn l stage given parts = IsAt l.line stage given parts
+IsAtEnd NoMemory l stage given parts = ⊤
 
 abbrev pub TimesAtEnd : SessionEnd → LiveView → Stage → Type 0
 TimesAtEnd (WasSent code) l stage = TimesRow l.watch (moment_of stage)
@@ -168,7 +186,7 @@ pub record ToldAtEnd (end : SessionEnd) (l : LiveView) (stage : Stage) : Type 0 
   pub request : RequestRow l.wire (AsksAtEnd end l.charter stage)
   pub talks : IsIdle l.line.start → LineRow l.line [] (hung_up (last_of stage given))
   pub aim : HasAim l.charter stage
-  pub at : IsAtEnd end l stage parts
+  pub at : IsAtEnd end l stage given parts
   pub bytes : BytesRow l.wire (shape_at_end end (text_of stage parts))
   pub times : TimesAtEnd end l stage
   pub stays : Stays l
@@ -179,6 +197,8 @@ HasCode (ReadingHead s) code = ⊥
 HasCode (ReadingBody s) code = ⊥
 HasCode (Refusing s) code = code ≡ code_of (refusal_of s.cause)
 HasCode (Asking s) code = ⊥
+HasCode (Gathering s) code = ⊥
+HasCode (Giving s) code = code ≡ s.code
 HasCode (Failing s) code = code ≡ 502
 HasCode (Passing s) code = ⊥
 HasCode (Finishing s) code = (code ≡ s.passed.code) × (s.cause ≡ cause_of_end.Closed)
@@ -189,6 +209,8 @@ IsCutBy (ReadingHead s) cause = ⊥
 IsCutBy (ReadingBody s) cause = ⊥
 IsCutBy (Refusing s) cause = ⊥
 IsCutBy (Asking s) cause = ⊥
+IsCutBy (Gathering s) cause = ⊥
+IsCutBy (Giving s) cause = ⊥
 IsCutBy (Failing s) cause = ⊥
 IsCutBy (Passing s) cause = ⊥
 IsCutBy (Finishing s) cause = (cause ≡ s.cause) × (s.cause ≡ cause_of_end.Unrecovered)
@@ -208,6 +230,8 @@ why_at (ReadingHead s) = why.Nothing
 why_at (ReadingBody s) = why.Nothing
 why_at (Refusing s) = why_of s.cause
 why_at (Asking s) = why.Nothing
+why_at (Gathering s) = why.Nothing
+why_at (Giving s) = why.Nothing
 why_at (Failing s) = s.why
 why_at (Passing s) = why.Nothing
 why_at (Finishing s) = why.Nothing
@@ -233,6 +257,7 @@ end_by code cause_of_end.TimedOut = Cut cause_of_end.TimedOut
 abbrev pub LeadsTo : LiveView → LiveView → ℕ → Next → Type 0
 LeadsTo v w n (Go stage) = Told w stage × (rank stage < n)
 LeadsTo v w n (Wait stage) = Told w stage × Pends v w stage
+LeadsTo v w n (Hold stage) = AttachingTold w stage
 LeadsTo v w n (End ended) = Finishes w ended
 
 pub record Leads (v w : LiveView) (n : ℕ) (next : Next) : Type 0 where
@@ -298,10 +323,54 @@ pub record IsBegunAt (l : LiveView) (s : AskingStage) (head : Response) (status 
   pub rows : HasAsked l s.asked s.exchange (speaking (said s.exchange [])) (head_by s.asked head status)
   pub has : HasHeadOf s.exchange head
 
--- the talk is over, and this is why there is no response
+-- the talk is over, in which this content was given, and this is why there is no response
 pub record IsFailedAt (l : LiveView) (s : AskingStage) (why : Why) : Type 0 where
-  pub rows : HasAsked l s.asked s.exchange (hung (said s.exchange [])) []
-  pub fails : FailsBy l.line s.asked.request.head.method s.exchange why
+  pub given : List ℕ
+  pub parts : List (List ℕ)
+  pub cut : ArePartsOf parts given
+  pub rows : HasAsked l s.asked s.exchange (hung (said s.exchange given)) []
+  pub fails : FailsBy l.line s.asked.request.head.method s.exchange given why
+
+-- the same behind a body that was gathered
+abbrev pub HasFailedAt : LiveView → GatheringStage → Why → Type 0
+HasFailedAt l s why = IsFailedAt l (record { asked = s.asked; exchange = s.exchange }) why
+
+-- so much of a body was gathered, and the talk has given this part too
+pub record HasCome (l : LiveView) (s : GatheringStage) (part : List ℕ) : Type 0 where
+  pub parts : List (List ℕ)
+  pub cut : ArePartsOf parts s.content
+  pub some : 0 < length part
+  pub rows : HasAsked l s.asked s.exchange (speaking (said s.exchange (s.content ++ part))) []
+  pub at : IsGathering s s.content
+
+-- a whole body was gathered, and the talk is over
+pub record HasComeAll (l : LiveView) (s : GatheringStage) : Type 0 where
+  pub parts : List (List ℕ)
+  pub cut : ArePartsOf parts s.content
+  pub rows : HasAsked l s.asked s.exchange (hung (said s.exchange s.content)) []
+  pub over : IsOverBy last.End s.exchange.place
+  pub has : HasGatheredHead s.asked.request.head.method s.exchange s.head
+
+-- and this was read of it
+pub record IsAnsweredWith (l : LiveView) (s : AskingStage) (answer : Answer) : Type 0 where
+  pub head : Response
+  pub content : List ℕ
+  pub parts : List (List ℕ)
+  pub cut : ArePartsOf parts content
+  pub rows : HasAsked l s.asked s.exchange (hung (said s.exchange content)) []
+  pub over : IsOverBy last.End s.exchange.place
+  pub has : HasGatheredHead s.asked.request.head.method s.exchange head
+  pub read : IsAnswer head content answer
+
+-- a part that comes makes the content longer
+pub record GathersOn (v w : LiveView) (count : ℕ) (s : GatheringStage) : Type 0 where
+  pub moved : Moved v w
+  pub told : Told w (Gathering s)
+  pub more : count < length s.content
+
+abbrev pub GathersTo : LiveView → LiveView → ℕ → Gathered → Type 0
+GathersTo v w count (gathered.More stage) = GathersOn v w count stage
+GathersTo v w count (gathered.Next next) = Leads v w 2 next
 
 -- so much of a body was passed on, and the talk has given this part too
 pub record HasGiven (l : LiveView) (s : PassingStage) (part : List ℕ) : Type 0 where

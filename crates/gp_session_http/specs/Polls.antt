@@ -1,5 +1,5 @@
 -- What a poll of a session brings.
-use Rattle.std.specs.Prelude.{◌≡◌, ◌≤◌, [], Option, Some, None, IfSome}
+use Rattle.std.specs.Prelude.{◌≡◌, ◌≤◌, ◌⊎◌, [], Option, Some, None, IfSome}
 use Rattle.gp_outside.specs.Clocks.{ClockTells}
 use Rattle.gp_outside.specs.Dials.{DialTells}
 use Rattle.gp_outside.specs.Links.{LinkTells}
@@ -13,7 +13,13 @@ use Rattle.gp_session_http.specs.declared.stage.Stage.{Stage}
 use Rattle.gp_session_http.specs.declared.stage.Stage.TheVariants.{ReadingHead}
 use Rattle.gp_session.specs.Seats.{IsFresh}
 use Rattle.gp_session_http.specs.Routing.{Charter}
-use Rattle.gp_session_http.specs.Views.{LiveView, Moved}
+use Rattle.gp_session_http.specs.declared.held.Held.{Held as HeldStage}
+use Rattle.gp_session_http.specs.declared.session.Phase.{Phase}
+use Rattle.gp_session_http.specs.declared.session.Phase.TheVariants.{Free, Held}
+use Rattle.gp_session_http.specs.declared.stage.Ended.{Ended}
+use Rattle.gp_session_http.specs.Views.{LiveView, Moved, Goes}
+use Rattle.gp_session_http.specs.Holding.{HeldTold, HeldPends, HeldFinishes}
+use Rattle.gp_session_http.specs.Headlines.{HasHeadline}
 use Rattle.gp_session_http.specs.Trace.{Told, new_live}
 use Rattle.gp_session_http.specs.Moves.{Finishes, Pends}
 
@@ -29,7 +35,16 @@ devices_of l = record { link = l.wire.link; dial = l.line.dial; clock = l.watch.
 -- a session that goes on
 pub record OpenView : Type 0 where
   pub live : LiveView
-  pub stage : Stage
+  pub phase : Phase
+
+-- its rows
+abbrev pub PhaseTold : LiveView → Phase → Type 0
+PhaseTold l (Free stage) = Told l stage
+PhaseTold l (Held stage) = HeldTold l stage
+
+-- and those at its end: before the hub was asked for anything, or since an answer asked for a stream
+abbrev pub PhaseFinishes : LiveView → Ended → Type 0
+PhaseFinishes l ended = Finishes l ended ⊎ HeldFinishes l ended
 
 -- a session, and what the devices tell that it leaves once it has ended
 pub record SessionView : Type 0 where
@@ -38,7 +53,7 @@ pub record SessionView : Type 0 where
 
 -- the session's first stage
 abbrev pub begun : LiveView → OpenView
-begun l = record { live = l; stage = ReadingHead (record { intake = [] }) }
+begun l = record { live = l; phase = Free (ReadingHead (record { intake = [] })) }
 
 -- the ends of a session that begins
 pub record IsNew (l : LiveView) : Type 0 where
@@ -54,9 +69,9 @@ HasEnded s = s.open_is ≡ None
 
 -- what a session leaves whose last view was this: its outcome, and its devices
 pub record Leaves (l : LiveView) (o : Outcome) (devices : DevicesView) : Type 0 where
-  pub finishes : Finishes l (record { end = o.end; why = o.why })
+  pub finishes : PhaseFinishes l (record { end = o.end; why = o.why })
   pub published : o.published ≡ 0
-  pub holds : o.holds.items ≡ []
+  pub holds : o.holds.items ≡ l.reports.items
   pub pass : o.pass ≡ l.seat.pass
   pub devices_are : devices ≡ devices_of l
 
@@ -76,14 +91,28 @@ pub record MayLeave (start : DevicesView) (pass : HubView) (charter : Charter) (
 -- the moves of a poll that ends the session
 pub record Ends (v : LiveView) (o : Outcome) (devices : DevicesView) : Type 0 where
   pub l : LiveView
-  pub moved : Moved v l
+  pub moved : Goes v l
   pub leaves : Leaves l o devices
+  pub headline : HasHeadline l
 
 -- and of one after which it goes on
-pub record Waits (v : LiveView) (q : OpenView) : Type 0 where
-  pub moved : Moved v q.live
-  pub told : Told q.live q.stage
-  pub pends : Pends v q.live q.stage
+pub record FreeWaits (v w : LiveView) (stage : Stage) : Type 0 where
+  pub moved : Moved v w
+  pub told : Told w stage
+  pub pends : Pends v w stage
+
+pub record HeldWaits (v w : LiveView) (stage : HeldStage) : Type 0 where
+  pub moved : Goes v w
+  pub told : HeldTold w stage
+  pub pends : HeldPends v w stage
+  pub headline : HasHeadline w
+
+abbrev pub WaitsIn : LiveView → LiveView → Phase → Type 0
+WaitsIn v w (Free stage) = FreeWaits v w stage
+WaitsIn v w (Held stage) = HeldWaits v w stage
+
+abbrev pub Waits : LiveView → OpenView → Type 0
+Waits v q = WaitsIn v q.live q.phase
 
 pub record PollEnds (v w : SessionView) (o : Outcome) : Type 0 where
   pub p : OpenView

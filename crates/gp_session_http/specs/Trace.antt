@@ -1,8 +1,9 @@
 -- What a session says of its link, its dialer, its clock and its pass after every move, row by row. All is said since the session
 -- began.
-use Rattle.std.specs.Prelude.{◌≡◌, ℕ, ◌<◌, ◌⊎◌, true, false, List, [], ◌++◌, Option, Some, None, ⊤}
+use Rattle.std.specs.Prelude.{◌≡◌, ℕ, ◌<◌, ◌≤◌, ◌⊎◌, true, false, List, [], ◌++◌, length, Option, Some, None, ⊤}
 use Rattle.gp_plain.specs.declared.reply.EndCause.{EndCause}
 use Rattle.gp_plain.specs.declared.reply.EndCause.TheVariants.{Closed, Detached, Gap, Unrecovered, Overflow, Answered, Retry, TimedOut}
+use Rattle.gp_plain.specs.Roomy.{roomy}
 use Rattle.gp_outside.specs.Counts.{Rose}
 use Rattle.gp_outside.specs.Clocks.{ClockTells}
 use Rattle.gp_outside.specs.Dials.{DialTells, DialLater, IsIdle}
@@ -22,15 +23,22 @@ use Rattle.gp_session.specs.Watches.{WatchView, WatchRow, new_watch}
 use Rattle.gp_session.specs.Seats.{SeatRow, HasNoHolds, IsServed as IsHubServed, Made, new_seat}
 use Rattle.gp_session_http.specs.declared.asked.Asked.{Asked}
 use Rattle.gp_session_http.specs.declared.passed.Passed.{Passed}
+use Rattle.gp_session_http.specs.declared.gathering.Gathering.{Gathering as GatheringStage}
 use Rattle.gp_session_http.specs.declared.stage.Stage.{Stage}
-use Rattle.gp_session_http.specs.declared.stage.Stage.TheVariants.{ReadingHead, ReadingBody, Refusing, Asking, Failing, Passing, Finishing}
+use Rattle.gp_session_http.specs.declared.stage.Stage.TheVariants.{ReadingHead, ReadingBody, Refusing, Asking, Gathering, Giving, Failing, Passing, Finishing}
 use Rattle.gp_session_http.specs.Routing.{Charter, IsRouted, IsServed, IsRefusedFor, refusal_of, refusal_text}
-use Rattle.gp_session_http.specs.Asking.{IsAskedFor, ExpectsHead, FailsBy}
+use Rattle.gp_session_http.specs.Asking.{IsAskedFor, ExpectsHead, HasGatheredHead, FailsBy}
+use Rattle.gp_session_http.specs.Wishes.{most_gathered, IsWish}
+use Rattle.gp_session_http.specs.Givings.{code_given, given_text}
+use Rattle.gp_session_http.specs.declared.giving.Giving.{Giving as GivingStage}
+use Rattle.gp_session_http.specs.declared.grant.Wish.TheVariants.{Whole}
+use Rattle.gp_instruct_json.specs.Answers.{IsAnswer}
+use Rattle.gp_plain.specs.declared.http.Response.{Response as HttpResponse}
 use Rattle.gp_session_http.specs.Passing.{asked_of, origin_head, has_no_body, IsPassedOn, ArePartsOf, passed_text}
 use Rattle.gp_session_http.specs.Views.{LiveView}
 
 abbrev pub new_live : LinkTells → DialTells → ClockTells → HubView → Charter → LiveView
-new_live link dial clock pass charter = record { wire = new_wire link; line = new_line dial; watch = new_watch clock; seat = new_seat pass; charter = charter }
+new_live link dial clock pass charter = record { wire = new_wire link; line = new_line dial; watch = new_watch clock; seat = new_seat pass; charter = charter; reports = roomy [] 0 }
 
 -- Row: the request. What the bytes received are.
 abbrev pub Serves : Charter → Asked → List ℕ → Type 0
@@ -41,6 +49,8 @@ Asks c (ReadingHead s) received = (received ≡ s.intake) × IsBegun received
 Asks c (ReadingBody s) received = IsHeaded s.intake received × IsRouted c.rules s.intake.head s.intake.path s.address
 Asks c (Refusing s) received = IsRefusedFor c.rules s.cause s.method.value received
 Asks c (Asking s) received = Serves c s.asked received
+Asks c (Gathering s) received = Serves c s.asked received
+Asks c (Giving s) received = Serves c s.asked.value received
 Asks c (Failing s) received = Serves c s.asked.value received
 Asks c (Passing s) received = Serves c (asked_of s.passed) received
 Asks c (Finishing s) received = Serves c (asked_of s.passed) received
@@ -51,7 +61,9 @@ last_of (ReadingHead s) given = idle
 last_of (ReadingBody s) given = idle
 last_of (Refusing s) given = idle
 last_of (Asking s) given = speaking (record { exchange = s.exchange; given = [] })
-last_of (Failing s) given = hung (record { exchange = s.exchange.value; given = [] })
+last_of (Gathering s) given = speaking (record { exchange = s.exchange; given = given })
+last_of (Giving s) given = hung (record { exchange = s.exchange.value; given = given })
+last_of (Failing s) given = hung (record { exchange = s.exchange.value; given = given })
 last_of (Passing s) given = speaking (record { exchange = s.exchange; given = given })
 last_of (Finishing s) given = hung (record { exchange = s.exchange.value; given = given })
 
@@ -61,6 +73,8 @@ HasAim c (ReadingHead s) = ⊤
 HasAim c (ReadingBody s) = ⊤
 HasAim c (Refusing s) = ⊤
 HasAim c (Asking s) = IsAskedFor c.signer s.asked s.exchange.asked
+HasAim c (Gathering s) = IsAskedFor c.signer s.asked s.exchange.asked
+HasAim c (Giving s) = IsAskedFor c.signer s.asked.value s.exchange.value.asked
 HasAim c (Failing s) = IsAskedFor c.signer s.asked.value s.exchange.value.asked
 HasAim c (Passing s) = IsAskedFor c.signer (asked_of s.passed) s.exchange.asked
 HasAim c (Finishing s) = IsAskedFor c.signer (asked_of s.passed) s.exchange.value.asked
@@ -89,15 +103,33 @@ pub record IsPassedBy (p : Passed) (x : ExchangeView) (cause : EndCause) (parts 
   pub ended : HasEndedBy cause p x
   pub bare : has_no_body p ≡ true → parts ≡ []
 
+-- the body of an answer is gathered, which isn't too long so far
+pub record IsGathering (s : GatheringStage) (given : List ℕ) : Type 0 where
+  pub reading : rank s.exchange.place ≡ 4
+  pub has : HasGatheredHead s.asked.request.head.method s.exchange s.head
+  pub content : s.content ≡ given
+  pub short : length given ≤ most_gathered s.head
+
+-- such a body was read whole, and asks for no hold
+pub record IsGiving (s : GivingStage) (given : List ℕ) : Type 0 where
+  pub head : HttpResponse
+  pub has : HasGatheredHead s.asked.value.request.head.method s.exchange.value head
+  pub over : IsOverBy last.End s.exchange.value.place
+  pub read : IsAnswer head given s.answer.value
+  pub wish : IsWish s.answer.value Whole
+  pub code : s.code ≡ code_given s.answer.value
+
 -- what the exchange has come to
-abbrev pub IsAt : LineView → Stage → List (List ℕ) → Type 0
-IsAt l (ReadingHead s) parts = ⊤
-IsAt l (ReadingBody s) parts = ⊤
-IsAt l (Refusing s) parts = ⊤
-IsAt l (Asking s) parts = ExpectsHead s.exchange
-IsAt l (Failing s) parts = FailsBy l s.asked.value.request.head.method s.exchange.value s.why
-IsAt l (Passing s) parts = IsPassing s.passed s.exchange
-IsAt l (Finishing s) parts = IsPassedBy s.passed s.exchange.value s.cause parts
+abbrev pub IsAt : LineView → Stage → List ℕ → List (List ℕ) → Type 0
+IsAt l (ReadingHead s) given parts = ⊤
+IsAt l (ReadingBody s) given parts = ⊤
+IsAt l (Refusing s) given parts = ⊤
+IsAt l (Asking s) given parts = ExpectsHead s.exchange
+IsAt l (Gathering s) given parts = IsGathering s given
+IsAt l (Giving s) given parts = IsGiving s given
+IsAt l (Failing s) given parts = FailsBy l s.asked.value.request.head.method s.exchange.value given s.why
+IsAt l (Passing s) given parts = IsPassing s.passed s.exchange
+IsAt l (Finishing s) given parts = IsPassedBy s.passed s.exchange.value s.cause parts
 
 -- Row: the bytes. What was sent, followed by what waits, where the parts of a body were these.
 abbrev pub text_of : Stage → List (List ℕ) → List ℕ
@@ -105,6 +137,8 @@ text_of (ReadingHead s) parts = []
 text_of (ReadingBody s) parts = []
 text_of (Refusing s) parts = refusal_text (refusal_of s.cause) s.method.value
 text_of (Asking s) parts = []
+text_of (Gathering s) parts = []
+text_of (Giving s) parts = given_text s.answer.value
 text_of (Failing s) parts = refusal_text BadGateway s.asked.value.request.head.method
 text_of (Passing s) parts = passed_text s.passed parts None
 text_of (Finishing s) parts = passed_text s.passed parts (Some s.cause)
@@ -115,6 +149,8 @@ moment_of (ReadingHead s) = None
 moment_of (ReadingBody s) = None
 moment_of (Refusing s) = None
 moment_of (Asking s) = Some s.asked.moment
+moment_of (Gathering s) = Some s.asked.moment
+moment_of (Giving s) = Some s.asked.value.moment
 moment_of (Failing s) = Some s.asked.value.moment
 moment_of (Passing s) = Some (asked_of s.passed).moment
 moment_of (Finishing s) = Some (asked_of s.passed).moment
@@ -127,6 +163,7 @@ pub record IsUnasked (w : WatchView) : Type 0 where
 pub record WasAsked (w : WatchView) (now : ℕ) : Type 0 where
   pub last : w.clock.last ≡ now
   pub calls : Rose w.start.calls w.clock.calls
+  pub row : WatchRow w
 
 abbrev pub TimesRow : WatchView → Option ℕ → Type 0
 TimesRow w None = IsUnasked w
@@ -136,6 +173,7 @@ TimesRow w (Some now) = WasAsked w now
 pub record Stays (l : LiveView) : Type 0 where
   pub entries : Made l.seat []
   pub holds : HasNoHolds l.seat
+  pub reports : l.reports.items ≡ []
   pub seat : SeatRow l.seat
   pub served : IsHubServed l.seat
   pub links : LinkLater l.wire.start l.wire.link
@@ -148,7 +186,7 @@ pub record Told (l : LiveView) (stage : Stage) : Type 0 where
   pub request : RequestRow l.wire (Asks l.charter stage)
   pub talks : IsIdle l.line.start → LineRow l.line [] (last_of stage given)
   pub aim : HasAim l.charter stage
-  pub at : IsAt l.line stage parts
+  pub at : IsAt l.line stage given parts
   pub bytes : BytesRow l.wire (exactly (text_of stage parts))
   pub times : TimesRow l.watch (moment_of stage)
   pub stays : Stays l

@@ -1,5 +1,7 @@
 -- What contracts see of a session's ends.
 use Rattle.std.specs.Prelude.{◌≡◌, ℕ, List, ◌++◌}
+use Rattle.gp_plain.specs.Roomy.{Roomy}
+use Rattle.gp_plain.specs.declared.reply.HoldReport.{HoldReport}
 use Rattle.gp_session.specs.Wires.{WireView, MovedWire, Sent}
 use Rattle.gp_session.specs.Lines.{LineView, MovedLine}
 use Rattle.gp_session.specs.Watches.{WatchView}
@@ -12,6 +14,7 @@ pub record LiveView : Type 0 where
   pub watch : WatchView
   pub seat : SeatView
   pub charter : Charter
+  pub reports : Roomy HoldReport
 
 -- what was said to the client grew by these bytes
 abbrev pub SaysMore : WireView → WireView → List ℕ → Type 0
@@ -27,3 +30,11 @@ pub record Moved (v w : LiveView) : Type 0 where
   pub charter : w.charter ≡ v.charter
   pub more : List ℕ
   pub says : SaysMore v.wire w.wire more
+
+-- and what a move keeps by which a hold is attached, taken of or let go
+pub record Goes (v w : LiveView) : Type 0 where
+  pub wire : MovedWire v.wire w.wire
+  pub line : MovedLine v.line w.line
+  pub watch : w.watch.start ≡ v.watch.start
+  pub seat : MovedSeat v.seat w.seat
+  pub charter : w.charter ≡ v.charter

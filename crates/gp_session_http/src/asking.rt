@@ -2,12 +2,13 @@
 ghost use Rattle.std.specs.Prelude.{◌≡◌};
 ghost use Rattle.gp_session_http.specs.Trace.{Told};
 ghost use Rattle.gp_session_http.specs.Moves.{IsAnsweredAt, IsBegunAt, IsFailedAt, IsSpeakingAt, Leads};
-ghost use Rattle.gp_session_http.specs.Asking.{IsPassed, why_failed};
+ghost use Rattle.gp_session_http.specs.Asking.{IsGathered, IsPassed, why_failed};
 ghost use Rattle.gp_session_http.specs.declared.stage.Stage.TheVariants as stage;
 
 use crate::asked::Asked;
 use crate::failing::Failing;
 use crate::finishing::Finishing;
+use crate::gathering::Gathering;
 use crate::live::Live;
 use crate::passing::Passing;
 use crate::stage::{Ended, Next, Stage, end_with};
@@ -27,7 +28,7 @@ pub(crate) struct Asking {
 }
 
 /// Why there is no response.
-fn why_failed(fault: ExchangeFault) -> Why
+pub(crate) fn why_failed(fault: ExchangeFault) -> Why
     ensures { result ≡ why_failed fault }
 {
     match fault {
@@ -71,12 +72,31 @@ impl Asking {
     {
         match verdict_of(live.alloc, &head, self.asked.request.head.method.bytes()) {
             Verdict::Pass(status) => self.pass(live, head, status),
+            Verdict::Gather => self.gather(live, head),
             Verdict::Refuse => {
                 live.line.hang_up(&self.exchange);
                 self.fail(live, Why::Instruct)
             }
             Verdict::NoMemory => self.give_up(live),
         }
+    }
+
+    /// Begins to gather the body of the answer.
+    fn gather<'h, L: Link, D: Dial, C: Clock>(
+        self,
+        live: &mut Live<'h, L, D, C>,
+        head: Response,
+    ) -> Next
+        requires told { IsAnsweredAt live.old self head }
+        requires gathered { IsGathered self.asked.request.head.method head }
+        ensures leads { Leads live.old live.new 3 result }
+    {
+        Next::Go(Stage::Gathering(Gathering {
+            asked: self.asked,
+            exchange: self.exchange,
+            head,
+            content: Body::empty(live.alloc),
+        }))
     }
 
     /// Begins to pass the response on.
@@ -130,9 +150,13 @@ impl Asking {
     }
 
     /// Refuses the response, whose talk is over.
-    fn fail<'h, L: Link, D: Dial, C: Clock>(self, live: &mut Live<'h, L, D, C>, why: Why) -> Next
+    pub(crate) fn fail<'h, L: Link, D: Dial, C: Clock>(
+        self,
+        live: &mut Live<'h, L, D, C>,
+        why: Why,
+    ) -> Next
         requires told { IsFailedAt live.old self why }
-        ensures leads { Leads live.old live.new 3 result }
+        ensures leads { Leads live.old live.new 2 result }
     {
         let asked = Snapshot::of(&self.asked);
         let exchange = Snapshot::of(&self.exchange);

@@ -1,26 +1,40 @@
-//! A session with a client of HTTP: one request is read, asked of the origin that its route names, and the response is passed on.
+//! A session with a client of HTTP: one request is read, asked of the origin that its route names, and the response is passed on; or
+//! the response asks for a stream, and the session attaches a hold and streams what it gives.
 //!
 //! An [`HttpSession`] goes through stages. Each stage is a struct in a file of its own, named for what it expects, and owns
 //! only what it still needs; each move of a stage is one method.
 //!
 //! ```text
 //! ReadingHead -> ReadingBody -> Asking -> Passing -> Finishing -> the end
-//!       \____________\            \-> Failing -> the end
-//!                     \-> Refusing -> the end
+//!       \____________\            |  \-> Failing -> the end
+//!                     \           \-> Gathering -> Giving -> the end
+//!                      \-> Refusing         \-> Attaching -> Streaming -> Closing -> the end
+//!                                               \              \-> Leaving -> the end
+//!                                                \-> Declining -> the end
 //! ```
 //!
 //! `specs/Routing.antt` says which requests are forwarded and where, `specs/Asking.antt` what is asked of the origin and which answers
-//! are refused, and `specs/Passing.antt` how a response is passed on. `specs/Trace.antt` has the rows that hold after every move: what
-//! the bytes received are, what was said in the talk with the origin, and what was sent. `specs/Polls.antt` says what a poll answers,
-//! and why. It stands on `gp_session`, `gp_intake`, `gp_routes`, `gp_exchange`, `gp_answer` and `gp_hub`, and has no handle.
+//! are refused, `specs/Passing.antt` how a response is passed on, and `specs/Wishes.antt`, `specs/Grants.antt` and `specs/Givings.antt`
+//! what an answer asks for whose body is gathered. `specs/Trace.antt` has the rows that hold after every move up to there: what the
+//! bytes received are, what was said in the talk with the origin, and what was sent. `specs/Holding.antt` has those since a stream was
+//! asked for, and `specs/Headlines.antt` what a client is sent of its hold. `specs/Polls.antt` says what a poll answers, and why. It
+//! stands on `gp_session`, `gp_session_hold`, `gp_intake`, `gp_routes`, `gp_exchange`, `gp_answer` and `gp_hub`, and has no handle.
 #![tactic(auto)]
 
 mod asked;
 mod asking;
+mod attaching;
 mod cause;
+mod closing;
+mod declining;
 mod failing;
 mod finish;
 mod finishing;
+mod gathering;
+mod giving;
+mod grant;
+mod held;
+mod leaving;
 mod live;
 mod passed;
 mod passing;
@@ -29,6 +43,7 @@ mod reading_head;
 mod refusing;
 mod session;
 mod stage;
+mod streaming;
 mod verdict;
 
 pub use finish::{Finish, Handover};

@@ -8,7 +8,7 @@ use crate::refusing::Refusing;
 use crate::stage::{Ended, Next, Stage};
 use gp_hub::{Hub, HubPass, SessionEnd};
 use gp_outside::{Clock, Dial, Link};
-use gp_plain::{Body, Signer};
+use gp_plain::{Body, HoldReports, Signer};
 use gp_routes::Routes;
 use gp_session::{Line, Seat, Watch, Wire};
 use std::alloc::Global;
@@ -26,6 +26,8 @@ pub(crate) struct Live<'h, L: Link, D: Dial, C: Clock> {
     pub(crate) routes: &'h Routes,
     pub(crate) signer: &'h Signer,
     pub(crate) tag: Body,
+    /// What became of the holds that were let go.
+    pub(crate) reports: HoldReports,
 }
 
 impl<'h, L: Link, D: Dial, C: Clock> Model for Live<'h, L, D, C> {
@@ -33,7 +35,7 @@ impl<'h, L: Link, D: Dial, C: Clock> Model for Live<'h, L, D, C> {
 
     ghost Value = { LiveView };
 
-    ghost view = { λ l. record { wire = l.wire; line = l.line; watch = l.watch; seat = l.seat; charter = record { rules = l.routes.now; signer = l.signer.now; tag = l.tag } } };
+    ghost view = { λ l. record { wire = l.wire; line = l.line; watch = l.watch; seat = l.seat; charter = record { rules = l.routes.now; signer = l.signer.now; tag = l.tag }; reports = l.reports } };
 }
 
 impl<'h, L: Link, D: Dial, C: Clock> Live<'h, L, D, C> {

@@ -21,7 +21,8 @@ pub(crate) struct Passed {
     pub(crate) chunked: bool,
 }
 
-fn code_by(head: &Response, status: Option<u16>) -> u16
+/// The status that is sent.
+pub(crate) fn code_by(head: &Response, status: Option<u16>) -> u16
     ensures { result ≡ code_by head.now status }
 {
     match status {
@@ -30,7 +31,8 @@ fn code_by(head: &Response, status: Option<u16>) -> u16
     }
 }
 
-fn reason_by(head: &Response, status: Option<u16>) -> &[u8]
+/// Its reason.
+pub(crate) fn reason_by(head: &Response, status: Option<u16>) -> &[u8]
     ensures { result.now ≡ reason_by head.now status }
 {
     match status {
@@ -39,7 +41,8 @@ fn reason_by(head: &Response, status: Option<u16>) -> &[u8]
     }
 }
 
-fn in_chunks(framing: Framing) -> bool
+/// Whether a body is framed in chunks.
+pub(crate) fn in_chunks(framing: Framing) -> bool
     ensures { result ≡ in_chunks framing }
 {
     match framing {

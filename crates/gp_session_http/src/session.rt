@@ -2,10 +2,12 @@
 ghost use Rattle.std.specs.Prelude.{◌≡◌, MatchResult, option_map};
 ghost use Rattle.gp_hub.specs.Sessions.{HasPolled};
 ghost use Rattle.gp_session.specs.Seats.{IsFresh};
-ghost use Rattle.gp_session_http.specs.Moves.{Finishes};
-ghost use Rattle.gp_session_http.specs.Polls.{Ends, HasEnded, IsNew, Leaves, MayGive, PollsTo, Waits, begun, new_session};
+ghost use Rattle.gp_session_http.specs.Trace.{Told};
+ghost use Rattle.gp_session_http.specs.Holding.{HeldTold};
+ghost use Rattle.gp_session_http.specs.Polls.{Ends, HasEnded, IsNew, Leaves, MayGive, PhaseFinishes, PollsTo, Waits, begun, new_session};
 
 use crate::finish::Finish;
+use crate::held::{Held, HeldNext};
 use crate::live::Live;
 use crate::reading_head::ReadingHead;
 use crate::stage::{Ended, Next, Stage};
@@ -19,22 +21,30 @@ use std::alloc::Global;
 use std::marker::Model;
 use std::mem;
 
+/// What a session expects: before it asked the hub for anything, or since its origin's answer asked for a stream.
+#[derive(Drop)]
+pub(crate) enum Phase {
+    /// No answer has asked for a hold.
+    Free(Stage),
+    /// An answer asked for a stream.
+    Held(Held),
+}
+
 /// A session that goes on: its ends, and what it expects. Its rows hold.
 #[derive(Drop)]
 pub(crate) struct Open<'h, L: Link, D: Dial, C: Clock> {
     live: Live<'h, L, D, C>,
-    stage: Stage,
+    phase: Phase,
 }
 
 impl<'h, L: Link, D: Dial, C: Clock> Model for Open<'h, L, D, C> {
-    ghost use Rattle.gp_session_http.specs.Polls.{OpenView};
-    ghost use Rattle.gp_session_http.specs.Trace.{Told};
+    ghost use Rattle.gp_session_http.specs.Polls.{OpenView, PhaseTold};
 
     ghost Value = { OpenView };
 
-    ghost view = { λ o. record { live = o.live; stage = o.stage } };
+    ghost view = { λ o. record { live = o.live; phase = o.phase } };
 
-    ghost invariant = { λ o. Told o.live o.stage };
+    ghost invariant = { λ o. PhaseTold o.live o.phase };
 }
 
 /// The devices of a session.
@@ -62,8 +72,9 @@ impl<L: Link, D: Dial, C: Clock> Devices<L, D, C> {
 }
 
 /// A session with a client of HTTP. It reads one request, asks the origin of the first route that it meets, and passes the
-/// response on, part by part. A request that no route meets is answered 404, one for a WebSocket 501, and one whose origin gives no
-/// response that can be passed on 502.
+/// response on, part by part; or, where the response asks for a stream, attaches a hold and streams what it gives. A request that no
+/// route meets is answered 404, one for a WebSocket 501, one whose origin gives no response that can be passed on 502, and one whose
+/// hold can't be made 503.
 #[derive(Drop)]
 pub struct HttpSession<'h, L: Link, D: Dial, C: Clock> {
     open: Option<Open<'h, L, D, C>>,
@@ -84,16 +95,16 @@ impl<'h, L: Link, D: Dial, C: Clock> Model for HttpSession<'h, L, D, C> {
 /// What a session leaves: its outcome, and its devices.
 type Left<L, D, C> = (Outcome, Devices<L, D, C>);
 
-/// What the ends of a session leave. It attached no hold, and published nothing.
+/// What the ends of a session leave. It published nothing.
 fn left<'h, L: Link, D: Dial, C: Clock>(live: Live<'h, L, D, C>, ended: Ended) -> Left<L, D, C>
-    requires { Finishes live ended }
+    requires { PhaseFinishes live ended }
     ensures { Leaves live.entry result.0 result.1 }
 {
     let outcome = Outcome {
         end: ended.end,
         why: ended.why,
         published: 0,
-        holds: HoldReports::new(live.alloc),
+        holds: live.reports,
         pass: live.seat.into_pass(),
     };
     let devices = Devices {
@@ -102,6 +113,55 @@ fn left<'h, L: Link, D: Dial, C: Clock>(live: Live<'h, L, D, C>, ended: Ended) -
         clock: live.watch.into_clock(),
     };
     (outcome, devices)
+}
+
+/// Makes moves of a session whose origin's answer asked for a stream, until one waits, or ends the session.
+fn advance_held<'h, L: Link, D: Dial, C: Clock>(
+    live: Live<'h, L, D, C>,
+    stage: Held,
+) -> Result<Open<'h, L, D, C>, Left<L, D, C>>
+    requires told { HeldTold live stage }
+    ensures { MatchResult result (Waits live.entry) (λ left. Ends live.entry left.0 left.1) }
+{
+    let mut live = live;
+    let mut stage = stage;
+    loop {
+        match stage.advance(&mut live) {
+            HeldNext::Go(next) => stage = next,
+            HeldNext::Wait(next) => {
+                return Ok(Open {
+                    live,
+                    phase: Phase::Held(next),
+                });
+            }
+            HeldNext::End(ended) => return Err(left(live, ended)),
+        }
+    }
+}
+
+/// Makes moves of a session of which no answer has asked for a hold, until one waits, or ends the session, or a hold is attached.
+fn advance_free<'h, L: Link, D: Dial, C: Clock>(
+    live: Live<'h, L, D, C>,
+    stage: Stage,
+) -> Result<Open<'h, L, D, C>, Left<L, D, C>>
+    requires told { Told live stage }
+    ensures { MatchResult result (Waits live.entry) (λ left. Ends live.entry left.0 left.1) }
+{
+    let mut live = live;
+    let mut stage = stage;
+    loop {
+        match stage.advance(&mut live) {
+            Next::Go(next) => stage = next,
+            Next::Wait(next) => {
+                return Ok(Open {
+                    live,
+                    phase: Phase::Free(next),
+                });
+            }
+            Next::Hold(attaching) => return advance_held(live, Held::Attaching(attaching)),
+            Next::End(ended) => return Err(left(live, ended)),
+        }
+    }
 }
 
 impl<'h, L: Link, D: Dial, C: Clock> Open<'h, L, D, C> {
@@ -113,27 +173,21 @@ impl<'h, L: Link, D: Dial, C: Clock> Open<'h, L, D, C> {
         let alloc = live.alloc;
         Open {
             live,
-            stage: Stage::ReadingHead(ReadingHead {
+            phase: Phase::Free(Stage::ReadingHead(ReadingHead {
                 intake: HeadIntake::new(alloc),
-            }),
+            })),
         }
     }
 
-    /// Makes moves until one waits, or ends the session.
+    /// Makes the moves of one poll.
     fn advance(self) -> Result<Open<'h, L, D, C>, Left<L, D, C>>
         ensures { MatchResult result (Waits self.entry.live) (λ left. Ends self.entry.live left.0 left.1) }
     {
-        let Open {
-            mut live,
-            mut stage,
-        } = self;
+        let Open { mut live, phase } = self;
         live.watch.begin();
-        loop {
-            match stage.advance(&mut live) {
-                Next::Go(next) => stage = next,
-                Next::Wait(next) => return Ok(Open { live, stage: next }),
-                Next::End(ended) => return Err(left(live, ended)),
-            }
+        match phase {
+            Phase::Free(stage) => advance_free(live, stage),
+            Phase::Held(stage) => advance_held(live, stage),
         }
     }
 }
@@ -167,6 +221,7 @@ impl<'h, L: Link, D: Dial, C: Clock> HttpSession<'h, L, D, C> {
             routes,
             signer,
             tag,
+            reports: HoldReports::new(alloc),
         };
         HttpSession {
             open: Some(Open::new(live)),

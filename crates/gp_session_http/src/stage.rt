@@ -5,8 +5,11 @@ ghost use Rattle.gp_session_http.specs.Trace.{Told};
 ghost use Rattle.gp_session_http.specs.Moves.{Leads, rank};
 
 use crate::asking::Asking;
+use crate::attaching::Attaching;
 use crate::failing::Failing;
 use crate::finishing::Finishing;
+use crate::gathering::Gathering;
+use crate::giving::Giving;
 use crate::live::Live;
 use crate::passing::Passing;
 use crate::reading_body::ReadingBody;
@@ -15,7 +18,7 @@ use crate::refusing::Refusing;
 use gp_hub::{SessionEnd, Why};
 use gp_outside::{Clock, Dial, Link};
 
-/// What a session expects.
+/// What a session expects that has asked the hub for nothing yet.
 #[derive(Drop)]
 pub(crate) enum Stage {
     /// The rest of the request's head.
@@ -26,6 +29,10 @@ pub(crate) enum Stage {
     Refusing(Refusing),
     /// The head of the origin's response.
     Asking(Asking),
+    /// The rest of the body of an answer that asks for a hold, or is an instruction itself.
+    Gathering(Gathering),
+    /// The response that an instruction carries to go out.
+    Giving(Giving),
     /// The refusal of the origin's response to go out.
     Failing(Failing),
     /// The rest of the response's body.
@@ -48,6 +55,8 @@ pub(crate) enum Next {
     Go(Stage),
     /// To the next poll.
     Wait(Stage),
+    /// On, to attach a hold.
+    Hold(Attaching),
     /// To the end.
     End(Ended),
 }
@@ -66,6 +75,8 @@ impl Stage {
             Stage::ReadingBody(stage) => stage.advance(live),
             Stage::Refusing(stage) => stage.advance(live),
             Stage::Asking(stage) => stage.advance(live),
+            Stage::Gathering(stage) => stage.advance(live),
+            Stage::Giving(stage) => stage.advance(live),
             Stage::Failing(stage) => stage.advance(live),
             Stage::Passing(stage) => stage.advance(live),
             Stage::Finishing(stage) => stage.advance(live),

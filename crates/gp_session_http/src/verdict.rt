@@ -2,7 +2,7 @@
 ghost use Rattle.std.specs.Prelude.{◌≡◌};
 ghost use Rattle.gp_session_http.specs.Asking.{IsReadVerdict, IsVerdict, is_head};
 
-use gp_instruct::{InstructFault, read_headers};
+use gp_instruct::{InstructFault, Mode, read_headers};
 use gp_instruct_json::is_instruct;
 use gp_plain::Response;
 use std::alloc::Global;
@@ -12,6 +12,8 @@ use std::alloc::Global;
 pub(crate) enum Verdict {
     /// It is passed on, with this code in place of its own, where there is one.
     Pass(Option<u16>),
+    /// Its body is gathered: it opens a stream, or is an instruction itself.
+    Gather,
     /// Its instruction is refused: 502.
     Refuse,
     /// Memory is wanting.
@@ -29,13 +31,14 @@ fn read_verdict(alloc: Global, head: &Response) -> Verdict
     ensures { IsReadVerdict head.now result }
 {
     if is_instruct(head) {
-        return Verdict::Refuse;
+        return Verdict::Gather;
     }
     match read_headers(alloc, head) {
         Ok(None) => Verdict::Pass(None),
         Ok(Some(instruct)) => match instruct.mode {
             None => Verdict::Pass(instruct.status),
-            Some(_) => Verdict::Refuse,
+            Some(Mode::Stream) => Verdict::Gather,
+            Some(Mode::Response) => Verdict::Refuse,
         },
         Err(InstructFault::NoMemory) => Verdict::NoMemory,
         Err(_) => Verdict::Refuse,

@@ -12,7 +12,7 @@ begin-requires g c =
 
 pub returns : goal.returns
 returns g c =
-    let v : LiveView = record { wire = c.live.inside.wire; line = c.live.inside.line; watch = c.live.inside.watch; seat = c.live.inside.seat; charter = record { rules = c.live.inside.routes.now; signer = c.live.inside.signer.now; tag = c.live.inside.tag } } in
+    let v : LiveView = record { wire = c.live.inside.wire; line = c.live.inside.line; watch = c.live.inside.watch; seat = c.live.inside.seat; charter = record { rules = c.live.inside.routes.now; signer = c.live.inside.signer.now; tag = c.live.inside.tag }; reports = c.live.inside.reports } in
     let told : IsServedAt v c.args.request c.args.address = subst (λ (x : LiveView). IsServedAt x c.args.request c.args.address) (sym c.live.view_is) c.requires.told in
     let e = c.moment-moment.ensures in
     record {

@@ -1,4 +1,4 @@
-use Rattle.std.proofs.Common.{sym, subst, arith, []}
+use Rattle.std.proofs.Common.{◌∙◌, sym, subst, arith, inl, []}
 use Rattle.gp_hub.specs.declared.outcome.Why.{Why}
 use Rattle.gp_session.specs.Lines.{speaking}
 use Rattle.gp_session_http.specs.declared.stage.Stage.TheVariants as stage
@@ -6,13 +6,13 @@ use Rattle.gp_session_http.specs.declared.asking.Asking.{Asking as AskingStage}
 use Rattle.gp_session_http.specs.Asking.{FailsBy}
 use Rattle.gp_session_http.specs.Views.{LiveView}
 use Rattle.gp_session_http.specs.Moves.{said}
-use Rattle.gp_session_http.proofs.Rows.{told_live, from_live, leads_from, with_line, moved_line}
+use Rattle.gp_session_http.proofs.Rows.{told_live, from_live, leads_from, with_line, moved_line, no_parts}
 use Rattle.gp_session_http.proofs.Answering.{asking_rows, polled, reads_head, over_hung, over_rank, faulted, asking_waits, still_expects, asking_lost}
 use Rattle.gp_session_http.proofs.asking.Asking.advance.Goals as goal
 
 pub answered-requires : goal.answered-requires
 answered-requires g c =
-    let v : LiveView = record { wire = c.live.inside.wire; line = c.live.inside.line; watch = c.live.inside.watch; seat = c.live.inside.seat; charter = record { rules = c.live.inside.routes.now; signer = c.live.inside.signer.now; tag = c.live.inside.tag } } in
+    let v : LiveView = record { wire = c.live.inside.wire; line = c.live.inside.line; watch = c.live.inside.watch; seat = c.live.inside.seat; charter = record { rules = c.live.inside.routes.now; signer = c.live.inside.signer.now; tag = c.live.inside.tag }; reports = c.live.inside.reports } in
     let s = c.args.self in
     let told = told_live v c.args.live.now (stage.Asking s) c.live.view_is c.requires.told in
     let l = c.poll.new.self in
@@ -23,7 +23,7 @@ answered-requires g c =
 
 pub fail-requires : goal.fail-requires
 fail-requires g c =
-    let v : LiveView = record { wire = c.live.inside.wire; line = c.live.inside.line; watch = c.live.inside.watch; seat = c.live.inside.seat; charter = record { rules = c.live.inside.routes.now; signer = c.live.inside.signer.now; tag = c.live.inside.tag } } in
+    let v : LiveView = record { wire = c.live.inside.wire; line = c.live.inside.line; watch = c.live.inside.watch; seat = c.live.inside.seat; charter = record { rules = c.live.inside.routes.now; signer = c.live.inside.signer.now; tag = c.live.inside.tag }; reports = c.live.inside.reports } in
     let s = c.args.self in
     let told = told_live v c.args.live.now (stage.Asking s) c.live.view_is c.requires.told in
     let l = c.poll.new.self in
@@ -32,14 +32,17 @@ fail-requires g c =
     let rows = polled v l s.asked s.exchange x (speaking (said s.exchange [])) (speaking (said x [])) [] e.moved e.asked (e.row [] []) (asking_rows v s told) in
     record {
       told = record {
+        given = [];
+        parts = [];
+        cut = no_parts;
         rows = over_hung (with_line v l) s.asked x [] [] (over_rank _ x.place e.gives.0) rows;
-        fails = subst (λ (w : Why). FailsBy l s.asked.request.head.method x w) (sym c.why_failed.ensures) (faulted v.line l s.asked.request.head.method s.exchange x c.in-Fault.fault told.at e.moved told.stays.dials.faults e.gives e.heads);
+        fails = subst (λ (w : Why). FailsBy l s.asked.request.head.method x [] w) (sym c.why_failed.ensures) (faulted v.line l s.asked.request.head.method s.exchange x c.in-Fault.fault [] (omega (arith, told.at.early)) (inl (e.heads ∙ told.at.none)) e.moved told.stays.dials.faults e.gives);
       };
     }
 
 pub returns-in-Head : goal.returns-in-Head
 returns-in-Head g c =
-    let v : LiveView = record { wire = c.live.inside.wire; line = c.live.inside.line; watch = c.live.inside.watch; seat = c.live.inside.seat; charter = record { rules = c.live.inside.routes.now; signer = c.live.inside.signer.now; tag = c.live.inside.tag } } in
+    let v : LiveView = record { wire = c.live.inside.wire; line = c.live.inside.line; watch = c.live.inside.watch; seat = c.live.inside.seat; charter = record { rules = c.live.inside.routes.now; signer = c.live.inside.signer.now; tag = c.live.inside.tag }; reports = c.live.inside.reports } in
     let s = c.args.self in
     let told = told_live v c.args.live.now (stage.Asking s) c.live.view_is c.requires.told in
     let l = c.poll.new.self in
@@ -50,18 +53,18 @@ returns-in-Head g c =
 
 pub returns-in-Fault : goal.returns-in-Fault
 returns-in-Fault g c =
-    let v : LiveView = record { wire = c.live.inside.wire; line = c.live.inside.line; watch = c.live.inside.watch; seat = c.live.inside.seat; charter = record { rules = c.live.inside.routes.now; signer = c.live.inside.signer.now; tag = c.live.inside.tag } } in
+    let v : LiveView = record { wire = c.live.inside.wire; line = c.live.inside.line; watch = c.live.inside.watch; seat = c.live.inside.seat; charter = record { rules = c.live.inside.routes.now; signer = c.live.inside.signer.now; tag = c.live.inside.tag }; reports = c.live.inside.reports } in
     let s = c.args.self in
     let told = told_live v c.args.live.now (stage.Asking s) c.live.view_is c.requires.told in
     let l = c.poll.new.self in
     let x = c.poll.new.exchange in
     let e = c.in-Fault.ensures in
     let rows = polled v l s.asked s.exchange x (speaking (said s.exchange [])) (speaking (said x [])) [] e.moved e.asked (e.row [] []) (asking_rows v s told) in
-    record { leads = from_live v c.args.live.now _ 3 _ c.live.view_is (leads_from v _ _ 3 3 _ (moved_line v l e.moved) (omega arith) c.fail.ensures.leads) }
+    record { leads = from_live v c.args.live.now _ 3 _ c.live.view_is (leads_from v _ _ 2 3 _ (moved_line v l e.moved) (omega arith) c.fail.ensures.leads) }
 
 pub returns-in-NotReady : goal.returns-in-NotReady
 returns-in-NotReady g c =
-    let v : LiveView = record { wire = c.live.inside.wire; line = c.live.inside.line; watch = c.live.inside.watch; seat = c.live.inside.seat; charter = record { rules = c.live.inside.routes.now; signer = c.live.inside.signer.now; tag = c.live.inside.tag } } in
+    let v : LiveView = record { wire = c.live.inside.wire; line = c.live.inside.line; watch = c.live.inside.watch; seat = c.live.inside.seat; charter = record { rules = c.live.inside.routes.now; signer = c.live.inside.signer.now; tag = c.live.inside.tag }; reports = c.live.inside.reports } in
     let s = c.args.self in
     let told = told_live v c.args.live.now (stage.Asking s) c.live.view_is c.requires.told in
     let l = c.poll.new.self in
@@ -73,7 +76,7 @@ returns-in-NotReady g c =
 
 pub returns-in-NoMemory : goal.returns-in-NoMemory
 returns-in-NoMemory g c =
-    let v : LiveView = record { wire = c.live.inside.wire; line = c.live.inside.line; watch = c.live.inside.watch; seat = c.live.inside.seat; charter = record { rules = c.live.inside.routes.now; signer = c.live.inside.signer.now; tag = c.live.inside.tag } } in
+    let v : LiveView = record { wire = c.live.inside.wire; line = c.live.inside.line; watch = c.live.inside.watch; seat = c.live.inside.seat; charter = record { rules = c.live.inside.routes.now; signer = c.live.inside.signer.now; tag = c.live.inside.tag }; reports = c.live.inside.reports } in
     let s = c.args.self in
     let told = told_live v c.args.live.now (stage.Asking s) c.live.view_is c.requires.told in
     let l = c.poll.new.self in

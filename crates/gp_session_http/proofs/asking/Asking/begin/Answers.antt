@@ -11,7 +11,7 @@ use Rattle.gp_session_http.proofs.asking.Asking.begin.Goals as goal
 
 pub returns-then-is_bare_by : goal.returns-then-is_bare_by
 returns-then-is_bare_by g c =
-    let v : LiveView = record { wire = c.live.inside.wire; line = c.live.inside.line; watch = c.live.inside.watch; seat = c.live.inside.seat; charter = record { rules = c.live.inside.routes.now; signer = c.live.inside.signer.now; tag = c.live.inside.tag } } in
+    let v : LiveView = record { wire = c.live.inside.wire; line = c.live.inside.line; watch = c.live.inside.watch; seat = c.live.inside.seat; charter = record { rules = c.live.inside.routes.now; signer = c.live.inside.signer.now; tag = c.live.inside.tag }; reports = c.live.inside.reports } in
     let s = c.args.self in
     let head = c.args.head.now in
     let told : IsBegunAt v s head c.args.status = subst (λ (x : LiveView). IsBegunAt x s head c.args.status) (sym c.live.view_is) c.requires.told in

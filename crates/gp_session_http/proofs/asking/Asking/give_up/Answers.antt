@@ -8,7 +8,7 @@ use Rattle.gp_session_http.proofs.asking.Asking.give_up.Goals as goal
 
 pub returns : goal.returns
 returns g c =
-    let v : LiveView = record { wire = c.live.inside.wire; line = c.live.inside.line; watch = c.live.inside.watch; seat = c.live.inside.seat; charter = record { rules = c.live.inside.routes.now; signer = c.live.inside.signer.now; tag = c.live.inside.tag } } in
+    let v : LiveView = record { wire = c.live.inside.wire; line = c.live.inside.line; watch = c.live.inside.watch; seat = c.live.inside.seat; charter = record { rules = c.live.inside.routes.now; signer = c.live.inside.signer.now; tag = c.live.inside.tag }; reports = c.live.inside.reports } in
     let s = c.args.self in
     let told : IsSpeakingAt v s = subst (λ (x : LiveView). IsSpeakingAt x s) (sym c.live.view_is) c.requires.told in
     let l = c.hang_up.new.self in

@@ -9,7 +9,7 @@ use Rattle.gp_session_http.proofs.asking.Asking.pass.Goals as goal
 
 pub begin-requires-clause-told : goal.begin-requires-clause-told
 begin-requires-clause-told g c =
-    let v : LiveView = record { wire = c.live.inside.wire; line = c.live.inside.line; watch = c.live.inside.watch; seat = c.live.inside.seat; charter = record { rules = c.live.inside.routes.now; signer = c.live.inside.signer.now; tag = c.live.inside.tag } } in
+    let v : LiveView = record { wire = c.live.inside.wire; line = c.live.inside.line; watch = c.live.inside.watch; seat = c.live.inside.seat; charter = record { rules = c.live.inside.routes.now; signer = c.live.inside.signer.now; tag = c.live.inside.tag }; reports = c.live.inside.reports } in
     let s = c.args.self in
     let told : IsAnsweredAt v s c.args.head = subst (λ (x : LiveView). IsAnsweredAt x s c.args.head) (sym c.live.view_is) c.requires.told in
     let e = c.put.ensures in
@@ -18,13 +18,13 @@ begin-requires-clause-told g c =
 
 pub returns : goal.returns
 returns g c =
-    let v : LiveView = record { wire = c.live.inside.wire; line = c.live.inside.line; watch = c.live.inside.watch; seat = c.live.inside.seat; charter = record { rules = c.live.inside.routes.now; signer = c.live.inside.signer.now; tag = c.live.inside.tag } } in
+    let v : LiveView = record { wire = c.live.inside.wire; line = c.live.inside.line; watch = c.live.inside.watch; seat = c.live.inside.seat; charter = record { rules = c.live.inside.routes.now; signer = c.live.inside.signer.now; tag = c.live.inside.tag }; reports = c.live.inside.reports } in
     let e = c.put.ensures in
     record { leads = from_live v c.args.live.now _ 3 _ c.live.view_is (leads_from v _ _ 3 3 _ (moved_by_put v c.put.new.self _ e.start e.link c.in-Ok-put.ensures.ok) (omega arith) c.begin.ensures.leads) }
 
 pub give_up-requires-in-Err : goal.give_up-requires-in-Err
 give_up-requires-in-Err g c =
-    let v : LiveView = record { wire = c.live.inside.wire; line = c.live.inside.line; watch = c.live.inside.watch; seat = c.live.inside.seat; charter = record { rules = c.live.inside.routes.now; signer = c.live.inside.signer.now; tag = c.live.inside.tag } } in
+    let v : LiveView = record { wire = c.live.inside.wire; line = c.live.inside.line; watch = c.live.inside.watch; seat = c.live.inside.seat; charter = record { rules = c.live.inside.routes.now; signer = c.live.inside.signer.now; tag = c.live.inside.tag }; reports = c.live.inside.reports } in
     let s = c.args.self in
     let told : IsAnsweredAt v s c.args.head = subst (λ (x : LiveView). IsAnsweredAt x s c.args.head) (sym c.live.view_is) c.requires.told in
     let e = c.put.ensures in
@@ -32,6 +32,6 @@ give_up-requires-in-Err g c =
 
 pub returns-in-Err : goal.returns-in-Err
 returns-in-Err g c =
-    let v : LiveView = record { wire = c.live.inside.wire; line = c.live.inside.line; watch = c.live.inside.watch; seat = c.live.inside.seat; charter = record { rules = c.live.inside.routes.now; signer = c.live.inside.signer.now; tag = c.live.inside.tag } } in
+    let v : LiveView = record { wire = c.live.inside.wire; line = c.live.inside.line; watch = c.live.inside.watch; seat = c.live.inside.seat; charter = record { rules = c.live.inside.routes.now; signer = c.live.inside.signer.now; tag = c.live.inside.tag }; reports = c.live.inside.reports } in
     let e = c.put.ensures in
     record { leads = from_live v c.args.live.now _ 3 _ c.live.view_is (leads_from v _ _ 3 3 _ (moved_unput v c.put.new.self e.start e.link c.in-Err.ensures.err.1) (omega arith) c.give_up-in-Err.ensures.leads) }

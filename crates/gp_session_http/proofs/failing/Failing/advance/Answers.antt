@@ -9,7 +9,7 @@ use Rattle.gp_session_http.proofs.failing.Failing.advance.Goals.{in-Empty, in-No
 
 pub returns : goal.returns
 returns g c =
-    let v : LiveView = record { wire = c.live.inside.wire; line = c.live.inside.line; watch = c.live.inside.watch; seat = c.live.inside.seat; charter = record { rules = c.live.inside.routes.now; signer = c.live.inside.signer.now; tag = c.live.inside.tag } } in
+    let v : LiveView = record { wire = c.live.inside.wire; line = c.live.inside.line; watch = c.live.inside.watch; seat = c.live.inside.seat; charter = record { rules = c.live.inside.routes.now; signer = c.live.inside.signer.now; tag = c.live.inside.tag }; reports = c.live.inside.reports } in
     let s : Stage = stage.Failing c.args.self in
     let told = told_live v c.args.live.now s c.live.view_is c.requires.told in
     record {

@@ -10,7 +10,7 @@ use Rattle.gp_session_http.proofs.live.Live.refuse.Goals.{in-Ok, in-Err}
 
 pub returns : goal.returns
 returns g c =
-    let v : LiveView = record { wire = c.self.inside.wire; line = c.self.inside.line; watch = c.self.inside.watch; seat = c.self.inside.seat; charter = record { rules = c.self.inside.routes.now; signer = c.self.inside.signer.now; tag = c.self.inside.tag } } in
+    let v : LiveView = record { wire = c.self.inside.wire; line = c.self.inside.line; watch = c.self.inside.watch; seat = c.self.inside.seat; charter = record { rules = c.self.inside.routes.now; signer = c.self.inside.signer.now; tag = c.self.inside.tag }; reports = c.self.inside.reports } in
     let may : MayRefuse v c.args.cause c.args.method.now = subst (λ (x : LiveView). MayRefuse x c.args.cause c.args.method.now) (sym c.self.view_is) c.requires in
     let text = put_text (refusal_of c.args.cause) c.refusal-refusal.result c.args.method.now c.bytes.result.now c.head.result.now c.empty-body.result c.body.result.now c.refusal-refusal.ensures c.bytes.ensures c.head.ensures c.empty-body.ensures c.body.ensures in
     from_live v c.args.self.now _ 2 _ c.self.view_is (elim c.match-put.branch [

@@ -13,7 +13,7 @@ use Rattle.gp_session_http.proofs.passing.Passing.pass.Goals as goal
 
 pub receive-requires-clause-told : goal.receive-requires-clause-told
 receive-requires-clause-told g c =
-    let v : LiveView = record { wire = c.live.inside.wire; line = c.live.inside.line; watch = c.live.inside.watch; seat = c.live.inside.seat; charter = record { rules = c.live.inside.routes.now; signer = c.live.inside.signer.now; tag = c.live.inside.tag } } in
+    let v : LiveView = record { wire = c.live.inside.wire; line = c.live.inside.line; watch = c.live.inside.watch; seat = c.live.inside.seat; charter = record { rules = c.live.inside.routes.now; signer = c.live.inside.signer.now; tag = c.live.inside.tag }; reports = c.live.inside.reports } in
     told_flushed v c.flush.new.self (stage.Passing c.args.self) flushed.Empty (told_live v c.args.live.now (stage.Passing c.args.self) c.live.view_is c.requires.told) c.in-Empty.ensures
 
 pub receive-requires-clause-empty : goal.receive-requires-clause-empty
@@ -21,20 +21,20 @@ receive-requires-clause-empty g c = c.in-Empty.ensures.cause.0
 
 pub returns-in-Empty : goal.returns-in-Empty
 returns-in-Empty g c =
-    let v : LiveView = record { wire = c.live.inside.wire; line = c.live.inside.line; watch = c.live.inside.watch; seat = c.live.inside.seat; charter = record { rules = c.live.inside.routes.now; signer = c.live.inside.signer.now; tag = c.live.inside.tag } } in
+    let v : LiveView = record { wire = c.live.inside.wire; line = c.live.inside.line; watch = c.live.inside.watch; seat = c.live.inside.seat; charter = record { rules = c.live.inside.routes.now; signer = c.live.inside.signer.now; tag = c.live.inside.tag }; reports = c.live.inside.reports } in
     record {
       steps = steps_live v c.args.live.now _ _ _ c.live.view_is (steps_from v (with_wire v c.flush.new.self) _ _ _ (moved_flush v c.flush.new.self flushed.Empty c.in-Empty.ensures) (says_flushed v.wire c.flush.new.self flushed.Empty c.in-Empty.ensures) c.receive.ensures.steps);
     }
 
 pub returns-in-NotReady : goal.returns-in-NotReady
 returns-in-NotReady g c =
-    let v : LiveView = record { wire = c.live.inside.wire; line = c.live.inside.line; watch = c.live.inside.watch; seat = c.live.inside.seat; charter = record { rules = c.live.inside.routes.now; signer = c.live.inside.signer.now; tag = c.live.inside.tag } } in
+    let v : LiveView = record { wire = c.live.inside.wire; line = c.live.inside.line; watch = c.live.inside.watch; seat = c.live.inside.seat; charter = record { rules = c.live.inside.routes.now; signer = c.live.inside.signer.now; tag = c.live.inside.tag }; reports = c.live.inside.reports } in
     let told = told_live v c.args.live.now (stage.Passing c.args.self) c.live.view_is c.requires.told in
     record { steps = from_live v c.args.live.now _ 2 _ c.live.view_is (passing_full v c.flush.new.self c.args.self told c.in-NotReady.ensures) }
 
 pub returns-in-Failed : goal.returns-in-Failed
 returns-in-Failed g c =
-    let v : LiveView = record { wire = c.live.inside.wire; line = c.live.inside.line; watch = c.live.inside.watch; seat = c.live.inside.seat; charter = record { rules = c.live.inside.routes.now; signer = c.live.inside.signer.now; tag = c.live.inside.tag } } in
+    let v : LiveView = record { wire = c.live.inside.wire; line = c.live.inside.line; watch = c.live.inside.watch; seat = c.live.inside.seat; charter = record { rules = c.live.inside.routes.now; signer = c.live.inside.signer.now; tag = c.live.inside.tag }; reports = c.live.inside.reports } in
     let s = c.args.self in
     let told = told_live v c.args.live.now (stage.Passing s) c.live.view_is c.requires.told in
     let w = c.flush.new.self in

@@ -11,7 +11,7 @@ use Rattle.gp_session_http.proofs.passing.Passing.receive.Goals as goal
 
 pub put-requires : goal.put-requires
 put-requires g c =
-    let v : LiveView = record { wire = c.live.inside.wire; line = c.live.inside.line; watch = c.live.inside.watch; seat = c.live.inside.seat; charter = record { rules = c.live.inside.routes.now; signer = c.live.inside.signer.now; tag = c.live.inside.tag } } in
+    let v : LiveView = record { wire = c.live.inside.wire; line = c.live.inside.line; watch = c.live.inside.watch; seat = c.live.inside.seat; charter = record { rules = c.live.inside.routes.now; signer = c.live.inside.signer.now; tag = c.live.inside.tag }; reports = c.live.inside.reports } in
     let s = c.args.self in
     let told = told_live v c.args.live.now (stage.Passing s) c.live.view_is c.requires.told in
     let l = c.poll.new.self in
@@ -21,7 +21,7 @@ put-requires g c =
 
 pub returns-in-Part : goal.returns-in-Part
 returns-in-Part g c =
-    let v : LiveView = record { wire = c.live.inside.wire; line = c.live.inside.line; watch = c.live.inside.watch; seat = c.live.inside.seat; charter = record { rules = c.live.inside.routes.now; signer = c.live.inside.signer.now; tag = c.live.inside.tag } } in
+    let v : LiveView = record { wire = c.live.inside.wire; line = c.live.inside.line; watch = c.live.inside.watch; seat = c.live.inside.seat; charter = record { rules = c.live.inside.routes.now; signer = c.live.inside.signer.now; tag = c.live.inside.tag }; reports = c.live.inside.reports } in
     let s = c.args.self in
     let told = told_live v c.args.live.now (stage.Passing s) c.live.view_is c.requires.told in
     let l = c.poll.new.self in
@@ -31,7 +31,7 @@ returns-in-Part g c =
 
 pub finish-requires : goal.finish-requires
 finish-requires g c =
-    let v : LiveView = record { wire = c.live.inside.wire; line = c.live.inside.line; watch = c.live.inside.watch; seat = c.live.inside.seat; charter = record { rules = c.live.inside.routes.now; signer = c.live.inside.signer.now; tag = c.live.inside.tag } } in
+    let v : LiveView = record { wire = c.live.inside.wire; line = c.live.inside.line; watch = c.live.inside.watch; seat = c.live.inside.seat; charter = record { rules = c.live.inside.routes.now; signer = c.live.inside.signer.now; tag = c.live.inside.tag }; reports = c.live.inside.reports } in
     let s = c.args.self in
     let told = told_live v c.args.live.now (stage.Passing s) c.live.view_is c.requires.told in
     let l = c.poll.new.self in
@@ -41,7 +41,7 @@ finish-requires g c =
 
 pub returns-in-End : goal.returns-in-End
 returns-in-End g c =
-    let v : LiveView = record { wire = c.live.inside.wire; line = c.live.inside.line; watch = c.live.inside.watch; seat = c.live.inside.seat; charter = record { rules = c.live.inside.routes.now; signer = c.live.inside.signer.now; tag = c.live.inside.tag } } in
+    let v : LiveView = record { wire = c.live.inside.wire; line = c.live.inside.line; watch = c.live.inside.watch; seat = c.live.inside.seat; charter = record { rules = c.live.inside.routes.now; signer = c.live.inside.signer.now; tag = c.live.inside.tag }; reports = c.live.inside.reports } in
     let s = c.args.self in
     let told = told_live v c.args.live.now (stage.Passing s) c.live.view_is c.requires.told in
     let l = c.poll.new.self in
@@ -51,7 +51,7 @@ returns-in-End g c =
 
 pub returns-in-Fault : goal.returns-in-Fault
 returns-in-Fault g c =
-    let v : LiveView = record { wire = c.live.inside.wire; line = c.live.inside.line; watch = c.live.inside.watch; seat = c.live.inside.seat; charter = record { rules = c.live.inside.routes.now; signer = c.live.inside.signer.now; tag = c.live.inside.tag } } in
+    let v : LiveView = record { wire = c.live.inside.wire; line = c.live.inside.line; watch = c.live.inside.watch; seat = c.live.inside.seat; charter = record { rules = c.live.inside.routes.now; signer = c.live.inside.signer.now; tag = c.live.inside.tag }; reports = c.live.inside.reports } in
     let s = c.args.self in
     let told = told_live v c.args.live.now (stage.Passing s) c.live.view_is c.requires.told in
     let l = c.poll.new.self in
@@ -64,7 +64,7 @@ returns-in-Fault g c =
 
 pub returns-in-NotReady : goal.returns-in-NotReady
 returns-in-NotReady g c =
-    let v : LiveView = record { wire = c.live.inside.wire; line = c.live.inside.line; watch = c.live.inside.watch; seat = c.live.inside.seat; charter = record { rules = c.live.inside.routes.now; signer = c.live.inside.signer.now; tag = c.live.inside.tag } } in
+    let v : LiveView = record { wire = c.live.inside.wire; line = c.live.inside.line; watch = c.live.inside.watch; seat = c.live.inside.seat; charter = record { rules = c.live.inside.routes.now; signer = c.live.inside.signer.now; tag = c.live.inside.tag }; reports = c.live.inside.reports } in
     let s = c.args.self in
     let told = told_live v c.args.live.now (stage.Passing s) c.live.view_is c.requires.told in
     let l = c.poll.new.self in
@@ -74,7 +74,7 @@ returns-in-NotReady g c =
 
 pub returns-in-NoMemory : goal.returns-in-NoMemory
 returns-in-NoMemory g c =
-    let v : LiveView = record { wire = c.live.inside.wire; line = c.live.inside.line; watch = c.live.inside.watch; seat = c.live.inside.seat; charter = record { rules = c.live.inside.routes.now; signer = c.live.inside.signer.now; tag = c.live.inside.tag } } in
+    let v : LiveView = record { wire = c.live.inside.wire; line = c.live.inside.line; watch = c.live.inside.watch; seat = c.live.inside.seat; charter = record { rules = c.live.inside.routes.now; signer = c.live.inside.signer.now; tag = c.live.inside.tag }; reports = c.live.inside.reports } in
     let s = c.args.self in
     let told = told_live v c.args.live.now (stage.Passing s) c.live.view_is c.requires.told in
     let l = c.poll.new.self in

@@ -7,7 +7,7 @@ use Rattle.gp_session_http.proofs.reading_body.ReadingBody.advance.Goals as goal
 
 pub ask-requires : goal.ask-requires
 ask-requires g c =
-    let v : LiveView = record { wire = c.live.inside.wire; line = c.live.inside.line; watch = c.live.inside.watch; seat = c.live.inside.seat; charter = record { rules = c.live.inside.routes.now; signer = c.live.inside.signer.now; tag = c.live.inside.tag } } in
+    let v : LiveView = record { wire = c.live.inside.wire; line = c.live.inside.line; watch = c.live.inside.watch; seat = c.live.inside.seat; charter = record { rules = c.live.inside.routes.now; signer = c.live.inside.signer.now; tag = c.live.inside.tag }; reports = c.live.inside.reports } in
     let told = told_live v c.args.live.now (stage.ReadingBody c.args.self) c.live.view_is c.requires.told in
     let e = c.read_body.ensures in
     let p = c.in-Whole.ensures.polls in
@@ -16,7 +16,7 @@ ask-requires g c =
 
 pub refuse-requires : goal.refuse-requires
 refuse-requires g c =
-    let v : LiveView = record { wire = c.live.inside.wire; line = c.live.inside.line; watch = c.live.inside.watch; seat = c.live.inside.seat; charter = record { rules = c.live.inside.routes.now; signer = c.live.inside.signer.now; tag = c.live.inside.tag } } in
+    let v : LiveView = record { wire = c.live.inside.wire; line = c.live.inside.line; watch = c.live.inside.watch; seat = c.live.inside.seat; charter = record { rules = c.live.inside.routes.now; signer = c.live.inside.signer.now; tag = c.live.inside.tag }; reports = c.live.inside.reports } in
     let told = told_live v c.args.live.now (stage.ReadingBody c.args.self) c.live.view_is c.requires.told in
     let e = c.read_body.ensures in
     let p = c.in-Refused.ensures.polls in
@@ -25,7 +25,7 @@ refuse-requires g c =
 
 pub returns-in-Whole : goal.returns-in-Whole
 returns-in-Whole g c =
-    let v : LiveView = record { wire = c.live.inside.wire; line = c.live.inside.line; watch = c.live.inside.watch; seat = c.live.inside.seat; charter = record { rules = c.live.inside.routes.now; signer = c.live.inside.signer.now; tag = c.live.inside.tag } } in
+    let v : LiveView = record { wire = c.live.inside.wire; line = c.live.inside.line; watch = c.live.inside.watch; seat = c.live.inside.seat; charter = record { rules = c.live.inside.routes.now; signer = c.live.inside.signer.now; tag = c.live.inside.tag }; reports = c.live.inside.reports } in
     let told = told_live v c.args.live.now (stage.ReadingBody c.args.self) c.live.view_is c.requires.told in
     let e = c.read_body.ensures in
     let p = c.in-Whole.ensures.polls in
@@ -34,7 +34,7 @@ returns-in-Whole g c =
 
 pub returns-in-Refused : goal.returns-in-Refused
 returns-in-Refused g c =
-    let v : LiveView = record { wire = c.live.inside.wire; line = c.live.inside.line; watch = c.live.inside.watch; seat = c.live.inside.seat; charter = record { rules = c.live.inside.routes.now; signer = c.live.inside.signer.now; tag = c.live.inside.tag } } in
+    let v : LiveView = record { wire = c.live.inside.wire; line = c.live.inside.line; watch = c.live.inside.watch; seat = c.live.inside.seat; charter = record { rules = c.live.inside.routes.now; signer = c.live.inside.signer.now; tag = c.live.inside.tag }; reports = c.live.inside.reports } in
     let told = told_live v c.args.live.now (stage.ReadingBody c.args.self) c.live.view_is c.requires.told in
     let e = c.read_body.ensures in
     let p = c.in-Refused.ensures.polls in
@@ -43,7 +43,7 @@ returns-in-Refused g c =
 
 pub returns-in-NotReady : goal.returns-in-NotReady
 returns-in-NotReady g c =
-    let v : LiveView = record { wire = c.live.inside.wire; line = c.live.inside.line; watch = c.live.inside.watch; seat = c.live.inside.seat; charter = record { rules = c.live.inside.routes.now; signer = c.live.inside.signer.now; tag = c.live.inside.tag } } in
+    let v : LiveView = record { wire = c.live.inside.wire; line = c.live.inside.line; watch = c.live.inside.watch; seat = c.live.inside.seat; charter = record { rules = c.live.inside.routes.now; signer = c.live.inside.signer.now; tag = c.live.inside.tag }; reports = c.live.inside.reports } in
     let told = told_live v c.args.live.now (stage.ReadingBody c.args.self) c.live.view_is c.requires.told in
     let e = c.read_body.ensures in
     let p = c.in-NotReady.ensures.polls in
@@ -52,7 +52,7 @@ returns-in-NotReady g c =
 
 pub returns-in-ClientGone : goal.returns-in-ClientGone
 returns-in-ClientGone g c =
-    let v : LiveView = record { wire = c.live.inside.wire; line = c.live.inside.line; watch = c.live.inside.watch; seat = c.live.inside.seat; charter = record { rules = c.live.inside.routes.now; signer = c.live.inside.signer.now; tag = c.live.inside.tag } } in
+    let v : LiveView = record { wire = c.live.inside.wire; line = c.live.inside.line; watch = c.live.inside.watch; seat = c.live.inside.seat; charter = record { rules = c.live.inside.routes.now; signer = c.live.inside.signer.now; tag = c.live.inside.tag }; reports = c.live.inside.reports } in
     let told = told_live v c.args.live.now (stage.ReadingBody c.args.self) c.live.view_is c.requires.told in
     let e = c.read_body.ensures in
     let p = c.in-ClientGone.ensures.polls in
@@ -61,7 +61,7 @@ returns-in-ClientGone g c =
 
 pub returns-in-NoMemory : goal.returns-in-NoMemory
 returns-in-NoMemory g c =
-    let v : LiveView = record { wire = c.live.inside.wire; line = c.live.inside.line; watch = c.live.inside.watch; seat = c.live.inside.seat; charter = record { rules = c.live.inside.routes.now; signer = c.live.inside.signer.now; tag = c.live.inside.tag } } in
+    let v : LiveView = record { wire = c.live.inside.wire; line = c.live.inside.line; watch = c.live.inside.watch; seat = c.live.inside.seat; charter = record { rules = c.live.inside.routes.now; signer = c.live.inside.signer.now; tag = c.live.inside.tag }; reports = c.live.inside.reports } in
     let told = told_live v c.args.live.now (stage.ReadingBody c.args.self) c.live.view_is c.requires.told in
     let e = c.read_body.ensures in
     let p = c.in-NoMemory.ensures.polls in

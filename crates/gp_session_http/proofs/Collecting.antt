@@ -1,0 +1,357 @@
+-- What gathering the body of an answer does to the rows of a session.
+use Rattle.std.proofs.Common.{◌≡◌, ◌≢◌, ℕ, ◌+◌, ◌-◌, ◌<◌, ◌≤◌, Bool, true, false, List, [], ◌∷◌, ◌++◌, length, nat_lt, Option, Some, None, option_map, refl, sym, ap, ◌∙◌, subst, arith, append-nil, length-append, ◌⊎◌, inl, inr}
+use Rattle.std.specs.Prelude.{if◌then◌else◌}
+use Rattle.std.proofs.lemmas.Bool.Decides.{nat_tests}
+use Rattle.gp_answer.specs.Framings.{streamed}
+use Rattle.gp_plain.specs.Fit.{fits}
+use Rattle.gp_plain.specs.declared.event.Event.TheVariants.{Attach}
+use Rattle.gp_plain.specs.declared.event.HoldSpec.{HoldSpec}
+use Rattle.gp_plain.specs.declared.http.Response.{Response}
+use Rattle.gp_outside.specs.Dials.{DialTells, IsIdle}
+use Rattle.gp_hub.specs.declared.outcome.SessionEnd.TheVariants as end
+use Rattle.gp_hub.specs.declared.outcome.Why.{Why}
+use Rattle.gp_hub.specs.declared.outcome.Why.TheVariants as why
+use Rattle.gp_instruct.specs.declared.instruct.Instruct.{Instruct}
+use Rattle.gp_instruct.specs.Heads.{IsInstruct}
+use Rattle.gp_instruct.specs.Asked.{asked as asked_by}
+use Rattle.gp_instruct.specs.Spec.{IsCounted, spec}
+use Rattle.gp_instruct.proofs.SpecFits.{spec_law_holds}
+use Rattle.gp_instruct_json.specs.Answers.{IsAnswer, IsAnswerBy, IsBodyAnswer, IsAnswerRefused}
+use Rattle.gp_instruct_json.specs.Bodies.{asked_of as asked_in}
+use Rattle.gp_instruct_json.specs.Kinds.{has_type}
+use Rattle.gp_instruct_json.specs.declared.answer.Answer.{Answer}
+use Rattle.gp_exchange.specs.Views.{ExchangeView}
+use Rattle.gp_exchange.specs.Answers.{rank, head_of, IsOverBy, Gives, Waits}
+use Rattle.gp_exchange.specs.declared.answer.ExchangeFault.{ExchangeFault}
+use Rattle.gp_exchange.specs.declared.answer.Last.{Last as ExchangeLast}
+use Rattle.gp_exchange.specs.declared.answer.Last.TheVariants as last
+use Rattle.gp_exchange.specs.declared.answer.Progress.TheVariants.{Fault, NotReady}
+use Rattle.gp_session.specs.Lines.{LineView, MovedLine, LineRow, speaking, hung}
+use Rattle.gp_session.specs.Wires.{WireView}
+use Rattle.gp_session_hold.specs.Unlinked.{without_link}
+use Rattle.gp_session_http.specs.declared.asked.Asked.{Asked}
+use Rattle.gp_session_http.specs.declared.asking.Asking.{Asking as AskingStage}
+use Rattle.gp_session_http.specs.declared.attaching.Attaching.{Attaching as AttachingStage}
+use Rattle.gp_session_http.specs.declared.gathering.Gathering.{Gathering as GatheringStage}
+use Rattle.gp_session_http.specs.declared.gathering.Gathered.{Gathered}
+use Rattle.gp_session_http.specs.declared.gathering.Gathered.TheVariants as gathered
+use Rattle.gp_session_http.specs.declared.giving.Giving.{Giving as GivingStage}
+use Rattle.gp_session_http.specs.declared.grant.Grant.{Grant}
+use Rattle.gp_session_http.specs.declared.grant.Wish.TheVariants.{Stream, LongStream, Whole, Other}
+use Rattle.gp_session_http.specs.declared.stage.Stage.TheVariants.{Gathering, Giving}
+use Rattle.gp_session_http.specs.declared.stage.Ended.{Ended}
+use Rattle.gp_session_http.specs.declared.stage.Next.TheVariants.{Go, Wait, Hold, End}
+use Rattle.gp_session_http.specs.Asking.{IsAskedFor, IsGathered, HasGatheredHead, FailsBy, why_failed}
+use Rattle.gp_session_http.specs.Grants.{hold_by, IsHoldOf, IsGrantOf, IsPrepared, IsGrant, AsksFor, stream_head, stream_head_by}
+use Rattle.gp_session_http.specs.Givings.{code_given, given_text}
+use Rattle.gp_session_http.specs.Holding.{AttachingTold, Granting}
+use Rattle.gp_session_http.specs.Moves.{waits, Leads, HasAsked, said, HasHeadOf, IsAnsweredAt, IsFailedAt, HasFailedAt, HasCome, HasComeAll, IsAnsweredWith, GathersOn, GathersTo}
+use Rattle.gp_session_http.specs.Passing.{ArePartsOf, code_by, in_chunks}
+use Rattle.gp_session_http.specs.Trace.{Serves, IsGathering, Told}
+use Rattle.gp_session_http.specs.Views.{LiveView, Moved}
+use Rattle.gp_session_http.specs.Wishes.{most_gathered, AsksStream, IsWish, status_of}
+use Rattle.gp_session_http.proofs.Rows.{with_wire, with_line, moved_by_put, moved_unput, moved_line, moved_same, moved_again, no_parts, leads_from}
+use Rattle.gp_session_http.proofs.Hearing.{none_waits}
+use Rattle.gp_session_http.proofs.Answering.{polled, put_on, put_none, over_hung, over_rank, faulted}
+use Rattle.gp_session_http.proofs.Sending.{more_parts, still_reads}
+use Rattle.gp_session_http.proofs.Granting.{unlinked_fits}
+
+-- the rows of a stage that gathers
+
+pub gathering_rows : (l : LiveView) (s : GatheringStage) (t : Told l (Gathering s)) → HasAsked l s.asked s.exchange (speaking (said s.exchange s.content)) []
+gathering_rows l s t = subst (λ (g : List ℕ). HasAsked l s.asked s.exchange (speaking (said s.exchange g)) []) (sym t.at.content)
+    (record { request = t.request; talks = t.talks; aim = t.aim; bytes = t.bytes; times = t.times; stays = t.stays })
+
+gathering_cut : (l : LiveView) (s : GatheringStage) (t : Told l (Gathering s)) → ArePartsOf t.parts s.content
+gathering_cut l s t = subst (ArePartsOf t.parts) (sym t.at.content) t.cut
+
+gathering_short : (l : LiveView) (s : GatheringStage) (t : Told l (Gathering s)) → length s.content ≤ most_gathered s.head
+gathering_short l s t = subst (λ (g : List ℕ). length g ≤ most_gathered s.head) (sym t.at.content) t.at.short
+
+pub gathering_told : (l : LiveView) (s : GatheringStage) (parts : List (List ℕ)) → ArePartsOf parts s.content → HasAsked l s.asked s.exchange (speaking (said s.exchange s.content)) [] → IsGathering s s.content → Told l (Gathering s)
+gathering_told l s parts cut h at = record { given = s.content; parts = parts; cut = cut; request = h.request; talks = h.talks; aim = h.aim; at = at; bytes = h.bytes; times = h.times; stays = h.stays }
+
+-- the first stage behind a head
+pub gathers_head : (l : LiveView) (s : AskingStage) (head : Response) (content : List ℕ) → content ≡ [] → IsAnsweredAt l s head → IsGathered s.asked.request.head.method head
+    → Leads l l 3 (Go (Gathering (record { asked = s.asked; exchange = s.exchange; head = head; content = content })))
+gathers_head l s head content none h is = subst (λ (c : List ℕ). Leads l l 3 (Go (Gathering (record { asked = s.asked; exchange = s.exchange; head = head; content = c })))) (sym none) (record {
+  moved = moved_same l;
+  to = (
+    gathering_told l (record { asked = s.asked; exchange = s.exchange; head = head; content = [] }) [] no_parts h.rows
+        (record { reading = h.has.reading; has = record { given = h.has.head_is; gathered = is }; content = refl; short = omega arith }),
+    omega arith,
+  );
+})
+
+-- an end for want of memory
+gathering_lost : (l : LiveView) (s : GatheringStage) (parts : List (List ℕ)) (given : List ℕ) (n : ℕ) (u : LiveView) → Moved u l → ArePartsOf parts given → HasAsked l s.asked s.exchange (hung (said s.exchange given)) []
+    → (ended : Ended) → ended ≡ record { end = end.NoMemory; why = why.Nothing } → Leads u l n (End ended)
+gathering_lost l s parts given n u moved cut h ended is = subst (λ (x : Ended). Leads u l n (End x)) (sym is) (record {
+  moved = moved;
+  to = record {
+    stage = Gathering s;
+    told = record {
+      given = given;
+      parts = parts;
+      cut = cut;
+      request = record { received = h.request.received; since = h.request.since; asks = record { used = h.request.received; unused = []; split = sym (append-nil h.request.received); asks = h.request.asks } };
+      talks = h.talks;
+      aim = h.aim;
+      at = tt;
+      bytes = ([], ([], refl), h.bytes);
+      times = tt;
+      stays = h.stays;
+    };
+    says = tt;
+    why_is = refl;
+  };
+})
+
+-- the talk was polled
+module _ (v : LiveView) (l : LineView) (s : GatheringStage) (told : Told v (Gathering s)) (y : ExchangeView) (moved : MovedLine v.line l) (same : y.asked ≡ s.exchange.asked) (head : head_of y.place ≡ head_of s.exchange.place) where
+  abbrev pub after_gather : GatheringStage
+  after_gather = record { asked = s.asked; exchange = y; head = s.head; content = s.content }
+
+  has_head : HasGatheredHead s.asked.request.head.method y s.head
+  has_head = record { given = head ∙ told.at.has.given; gathered = told.at.has.gathered }
+
+  at_again : rank y.place ≡ 4 → IsGathering after_gather s.content
+  at_again four = record { reading = four; has = has_head; content = refl; short = gathering_short v s told }
+
+  came : (part : List ℕ) → (LineRow v.line [] (speaking (said s.exchange s.content)) → LineRow l [] (speaking (said y (s.content ++ part)))) → HasAsked (with_line v l) s.asked y (speaking (said y (s.content ++ part))) []
+  came part row = polled v l s.asked s.exchange y (speaking (said s.exchange s.content)) (speaking (said y (s.content ++ part))) [] moved same row (gathering_rows v s told)
+
+  none_came : (LineRow v.line [] (speaking (said s.exchange s.content)) → LineRow l [] (speaking (said y (s.content ++ [])))) → HasAsked (with_line v l) s.asked y (speaking (said y s.content)) []
+  none_came row = subst (λ (g : List ℕ). HasAsked (with_line v l) s.asked y (speaking (said y g)) []) (append-nil s.content) (came [] row)
+
+  over_rows : (e : ExchangeLast) → IsOverBy e y.place → (LineRow v.line [] (speaking (said s.exchange s.content)) → LineRow l [] (speaking (said y (s.content ++ [])))) → HasAsked (with_line v l) s.asked y (hung (said y s.content)) []
+  over_rows e over row = over_hung (with_line v l) s.asked y s.content [] (over_rank e y.place over) (none_came row)
+
+  pub gather_part : (part : List ℕ) → 0 < length part → rank y.place ≡ 4 → (LineRow v.line [] (speaking (said s.exchange s.content)) → LineRow l [] (speaking (said y (s.content ++ part)))) → HasCome (with_line v l) after_gather part
+  gather_part part some four row = record { parts = told.parts; cut = gathering_cut v s told; some = some; rows = came part row; at = at_again four }
+
+  pub gather_all : IsOverBy last.End y.place → (LineRow v.line [] (speaking (said s.exchange s.content)) → LineRow l [] (speaking (said y (s.content ++ [])))) → HasComeAll (with_line v l) after_gather
+  gather_all over row = record { parts = told.parts; cut = gathering_cut v s told; rows = over_rows last.End over row; over = over; has = has_head }
+
+  pub gather_fault : (f : ExchangeFault) (w : Why) → w ≡ why_failed f → Gives s.exchange.place y.place v.line.dial l.dial (Fault f) → (LineRow v.line [] (speaking (said s.exchange s.content)) → LineRow l [] (speaking (said y (s.content ++ []))))
+      → HasFailedAt (with_line v l) after_gather w
+  gather_fault f w is g row = record {
+    given = s.content;
+    parts = told.parts;
+    cut = gathering_cut v s told;
+    rows = over_rows (last.Fault f) g.0 row;
+    fails = subst (λ (x : Why). FailsBy l s.asked.request.head.method y s.content x) (sym is)
+        (faulted v.line l s.asked.request.head.method s.exchange y f s.content (omega (arith, told.at.reading)) (inr (s.head, has_head)) moved told.stays.dials.faults g);
+  }
+
+  pub gather_waits : Gives s.exchange.place y.place v.line.dial l.dial NotReady → (LineRow v.line [] (speaking (said s.exchange s.content)) → LineRow l [] (speaking (said y (s.content ++ [])))) → Leads v (with_line v l) 2 (Wait (Gathering after_gather))
+  gather_waits g row = record {
+    moved = moved_line v l moved;
+    to = (
+      gathering_told (with_line v l) after_gather told.parts (gathering_cut v s told) (none_came row) (at_again (still_reads s.exchange y v.line.dial l.dial told.at.reading g)),
+      waits (record { request = λ no. absurd no; talk = λ _. g.1; writes = λ some. absurd (some (none_waits v.wire told.bytes)); some = inr (inl tt) }),
+    );
+  }
+
+  pub gather_wants : IsOverBy last.NoMemory y.place → (LineRow v.line [] (speaking (said s.exchange s.content)) → LineRow l [] (speaking (said y (s.content ++ [])))) → (ended : Ended) → ended ≡ record { end = end.NoMemory; why = why.Nothing }
+      → Leads v (with_line v l) 2 (End ended)
+  gather_wants over row ended is = gathering_lost (with_line v l) after_gather told.parts s.content 2 v (moved_line v l moved) (gathering_cut v s told) (over_rows last.NoMemory over row) ended is
+
+-- a part has come
+module _ (v : LiveView) (s : GatheringStage) (part : List ℕ) (h : HasCome v s part) where
+  cut_more : ArePartsOf (h.parts ++ part ∷ []) (s.content ++ part)
+  cut_more = more_parts h.parts s.content part h.cut h.some
+
+  hung_rows : (l : LineView) → MovedLine v.line l → (LineRow v.line [] (speaking (said s.exchange (s.content ++ part))) → LineRow l [] (hung (said s.exchange (s.content ++ part))))
+      → HasAsked (with_line v l) s.asked s.exchange (hung (said s.exchange (s.content ++ part))) []
+  hung_rows l moved row = polled v l s.asked s.exchange s.exchange (speaking (said s.exchange (s.content ++ part))) (hung (said s.exchange (s.content ++ part))) [] moved refl row h.rows
+
+  -- too much has
+  pub too_long : (l : LineView) → MovedLine v.line l → (LineRow v.line [] (speaking (said s.exchange (s.content ++ part))) → LineRow l [] (hung (said s.exchange (s.content ++ part)))) → most_gathered s.head - length s.content < length part
+      → HasFailedAt (with_line v l) s why.Origin
+  too_long l moved row long = record {
+    given = s.content ++ part;
+    parts = h.parts ++ part ∷ [];
+    cut = cut_more;
+    rows = hung_rows l moved row;
+    fails = inr (inl (record { head = s.head; has = h.at.has; long = let count : length (s.content ++ part) ≡ length s.content + length part = length-append s.content part in omega (arith, long, count) }));
+  }
+
+  -- it is kept
+  pub keeps_part : (content : List ℕ) → content ≡ s.content ++ part → length s.content + length part ≤ most_gathered s.head
+      → GathersOn v v (length s.content) (record { asked = s.asked; exchange = s.exchange; head = s.head; content = content })
+  keeps_part content is short = subst (λ (c : List ℕ). GathersOn v v (length s.content) (record { asked = s.asked; exchange = s.exchange; head = s.head; content = c })) (sym is) (record {
+    moved = moved_same v;
+    told = gathering_told v (record { asked = s.asked; exchange = s.exchange; head = s.head; content = s.content ++ part }) (h.parts ++ part ∷ []) cut_more h.rows
+        (record { reading = h.at.reading; has = h.at.has; content = refl; short = subst (λ (n : ℕ). n ≤ most_gathered s.head) (sym (length-append s.content part)) short });
+    more = let count : length (s.content ++ part) ≡ length s.content + length part = length-append s.content part in let some = h.some in omega (arith, some, count);
+  })
+
+  pub unkept : (l : LineView) → MovedLine v.line l → (LineRow v.line [] (speaking (said s.exchange (s.content ++ part))) → LineRow l [] (hung (said s.exchange (s.content ++ part))))
+      → (ended : Ended) → ended ≡ record { end = end.NoMemory; why = why.Nothing } → Leads v (with_line v l) 2 (End ended)
+  unkept l moved row ended is = gathering_lost (with_line v l) s (h.parts ++ part ∷ []) (s.content ++ part) 2 v (moved_line v l moved) cut_more (hung_rows l moved row) ended is
+
+-- parts one after another
+
+pub gathers_from : (u v w : LiveView) (count : ℕ) (g : Gathered) → Moved u v → GathersTo v w count g → GathersTo u w count g
+gathers_from u v w count (gathered.More stage) m h = record { moved = moved_again u v w m h.moved; told = h.told; more = h.more }
+gathers_from u v w count (gathered.Next next) m h = leads_from u v w 2 2 next m (omega arith) h
+
+pub gathers_live : (v x w : LiveView) (count : ℕ) (g : Gathered) → v ≡ x → GathersTo v w count g → GathersTo x w count g
+gathers_live v x w count g e h = subst (λ (y : LiveView). GathersTo y w count g) e h
+
+pub gathers_is : (v w : LiveView) (count : ℕ) (a b : Gathered) → a ≡ b → GathersTo v w count b → GathersTo v w count a
+gathers_is v w count a b e h = subst (GathersTo v w count) (sym e) h
+
+pub gathers_at : (v w x : LiveView) (count : ℕ) (g : Gathered) → x ≡ w → GathersTo v w count g → GathersTo v x count g
+gathers_at v w x count g e h = subst (λ (y : LiveView). GathersTo v y count g) (sym e) h
+
+-- the content is never longer than this
+pub most_less : (head : Response) → most_gathered head ≤ 524288
+most_less head = by_type (has_type head.fields)
+  where
+    by_type : (b : Bool) → (if b then 524288 else 262144) ≤ 524288
+    by_type true = omega arith
+    by_type false = omega arith
+
+pub gathered_less : (l : LiveView) (s : GatheringStage) → Told l (Gathering s) → length s.content ≤ 524288
+gathered_less l s t = let short = gathering_short l s t in let most = most_less s.head in omega (arith, short, most)
+
+-- the whole content was read
+
+module _ (v : LiveView) (s : GatheringStage) (h : HasComeAll v s) where
+  abbrev pub as_asking : AskingStage
+  as_asking = record { asked = s.asked; exchange = s.exchange }
+
+  pub read_whole : (answer : Answer) → IsAnswer s.head s.content answer → IsAnsweredWith v as_asking answer
+  read_whole answer read = record { head = s.head; content = s.content; parts = h.parts; cut = h.cut; rows = h.rows; over = h.over; has = h.has; read = read }
+
+  pub read_refused : IsAnswerRefused s.head s.content → IsFailedAt v as_asking why.Instruct
+  read_refused refused = record { given = s.content; parts = h.parts; cut = h.cut; rows = h.rows; fails = inr (record { head = s.head; has = h.has; over = h.over; refused = inl refused }) }
+
+  pub read_lost : (ended : Ended) → ended ≡ record { end = end.NoMemory; why = why.Nothing } → Leads v v 2 (End ended)
+  read_lost ended is = gathering_lost v s h.parts s.content 2 v (moved_same v) h.cut h.rows ended is
+
+module _ (v : LiveView) (s : AskingStage) (answer : Answer) (h : IsAnsweredWith v s answer) where
+  pub long_opening : IsWish answer LongStream → IsFailedAt v s why.Origin
+  long_opening wish = record { given = h.content; parts = h.parts; cut = h.cut; rows = h.rows; fails = inr (inr (record { head = h.head; has = h.has; over = h.over; answer = answer; read = h.read; wish = wish })) }
+
+  pub other_wish : IsWish answer Other → IsFailedAt v s why.Instruct
+  other_wish wish = record { given = h.content; parts = h.parts; cut = h.cut; rows = h.rows; fails = inr (record { head = h.head; has = h.has; over = h.over; refused = inr (answer, h.read, wish) }) }
+
+  pub answer_lost : (ended : Ended) → ended ≡ record { end = end.NoMemory; why = why.Nothing } → Leads v v 2 (End ended)
+  answer_lost ended is =
+      gathering_lost v (record { asked = s.asked; exchange = s.exchange; head = h.head; content = h.content }) h.parts h.content 2 v (moved_same v) h.cut h.rows ended is
+
+-- the response that an answer carries was put, or couldn't be
+module _ (v : LiveView) (s : AskingStage) (answer : Answer) (h : IsAnsweredWith v s answer) (w : WireView) (start : w.start ≡ v.wire.start) (link : w.link ≡ v.wire.link) where
+  pub gives_answer : w.rest ≡ v.wire.rest ++ given_text answer → IsWish answer Whole → (t : GivingStage) → t.asked.value ≡ s.asked → t.exchange.value ≡ s.exchange → t.answer.value ≡ answer → t.code ≡ code_given answer
+      → Leads v (with_wire v w) 2 (Go (Giving t))
+  gives_answer rest wish t asked exchange is code =
+      let put = put_on v w start link s.asked s.exchange (hung (said s.exchange h.content)) [] h.rows (given_text answer) rest in
+      let r1 = subst (λ (a : Asked). HasAsked (with_wire v w) a s.exchange (hung (said s.exchange h.content)) (given_text answer)) (sym asked) put in
+      let r2 = subst (λ (x : ExchangeView). HasAsked (with_wire v w) t.asked.value x (hung (said x h.content)) (given_text answer)) (sym exchange) r1 in
+      let r = subst (λ (a : Answer). HasAsked (with_wire v w) t.asked.value t.exchange.value (hung (said t.exchange.value h.content)) (given_text a)) (sym is) r2 in
+      record {
+        moved = moved_by_put v w (given_text answer) start link rest;
+        to = (
+          record {
+            given = h.content;
+            parts = h.parts;
+            cut = h.cut;
+            request = r.request;
+            talks = r.talks;
+            aim = r.aim;
+            at = record {
+              head = h.head;
+              has = subst (λ (x : ExchangeView). HasGatheredHead t.asked.value.request.head.method x h.head) (sym exchange) (subst (λ (a : Asked). HasGatheredHead a.request.head.method s.exchange h.head) (sym asked) h.has);
+              over = subst (λ (x : ExchangeView). IsOverBy last.End x.place) (sym exchange) h.over;
+              read = subst (IsAnswer h.head h.content) (sym is) h.read;
+              wish = subst (λ (a : Answer). IsWish a Whole) (sym is) wish;
+              code = code ∙ ap code_given (sym is);
+            };
+            bytes = r.bytes;
+            times = r.times;
+            stays = r.stays;
+          },
+          omega arith,
+        );
+      }
+
+  pub gives_not : w.rest ≡ v.wire.rest → (ended : Ended) → ended ≡ record { end = end.NoMemory; why = why.Nothing } → Leads v (with_wire v w) 2 (End ended)
+  gives_not rest ended is = gathering_lost (with_wire v w) (record { asked = s.asked; exchange = s.exchange; head = h.head; content = h.content }) h.parts h.content 2 v (moved_unput v w start link rest) h.cut
+      (put_none v w start link s.asked s.exchange (hung (said s.exchange h.content)) [] h.rows rest) ended is
+
+pub put_both : (bytes head body h b : List ℕ) → bytes ≡ head → head ≡ h → body ≡ b → bytes ++ (body ++ []) ≡ h ++ b
+put_both bytes head body h b same is e = ap (λ (x : List ℕ). bytes ++ x) (append-nil body ∙ e) ∙ ap (λ (x : List ℕ). x ++ b) (same ∙ is)
+
+pub lt_by : (a b : ℕ) → nat_lt a b ≡ true → a < b
+lt_by a b e = grind (arith, nat_tests, e)
+
+pub fits_in : (most count more : ℕ) → count ≤ most → nat_lt (most - count) more ≡ false → count + more ≤ most
+fits_in most count more le e = grind (arith, nat_tests, le, e)
+
+-- a hold that was read is one that may be attached
+
+counted_by : (typed : Bool) (head : Response) (content : List ℕ) (answer : Answer) (instruct : Instruct) → IsAnswerBy typed head content answer → answer.instruct ≡ Some instruct → IsCounted instruct
+counted_by true head content answer instruct read is = by_instruct answer.instruct is read
+  where
+    by_instruct : (o : Option Instruct) → o ≡ Some instruct → IsBodyAnswer head content o answer.head answer.body → IsCounted instruct
+    by_instruct None e b = let no : ⊥ = cc in absurd no
+    by_instruct (Some i) e b = let same : i ≡ instruct = cc in subst IsCounted same (record { asked = asked_in b.held; subs = b.parts.subs; count = b.parts.count })
+counted_by false head content answer instruct read is =
+    let has : IsInstruct head.fields (Some instruct) = subst (IsInstruct head.fields) is read.instruct in record { asked = asked_by head.fields; subs = has.1.subs; count = has.1.count }
+
+fits_by : (o : Option Instruct) (body : List ℕ) (now : ℕ) (held : HoldSpec) → ((instruct : Instruct) → o ≡ Some instruct → IsCounted instruct) → length body ≤ 262144 → option_map without_link (hold_by o body now) ≡ Some held → fits (Attach held) ≡ true
+fits_by None body now held counted short is = let no : ⊥ = cc in absurd no
+fits_by (Some instruct) body now held counted short is = by_spec (spec instruct body now false) refl is
+  where
+    by_spec : (o : Option HoldSpec) → spec instruct body now false ≡ o → option_map without_link o ≡ Some held → fits (Attach held) ≡ true
+    by_spec None e f = let no : ⊥ = cc in absurd no
+    by_spec (Some raw) e f =
+        let same : without_link raw ≡ held = cc in
+        subst (λ (x : HoldSpec). fits (Attach x) ≡ true) same (unlinked_fits raw ∙ spec_law_holds instruct body now false raw (counted instruct refl) short e)
+
+-- what is asked for is attached
+pub holds_answer : (v : LiveView) (s : AskingStage) (answer : Answer) → IsAnsweredWith v s answer → IsWish answer Stream → (a : AttachingStage) → IsPrepared s.asked s.exchange answer a → Leads v v 2 (Hold a)
+holds_answer v s answer h wish a p =
+    let rows = h.rows in
+    let asked = p.grant.asked_is in
+    let exchange = p.grant.exchange_is in
+    let is_answer = p.grant.answer_is in
+    let counted : (instruct : Instruct) → answer.instruct ≡ Some instruct → IsCounted instruct = λ instruct e. counted_by (has_type h.head.fields) h.head h.content answer instruct h.read e in
+    record {
+      moved = moved_same v;
+      to = record {
+        rows = record {
+          content = h.content;
+          request = record {
+            received = rows.request.received;
+            since = rows.request.since;
+            asks = record { used = rows.request.received; unused = []; split = sym (append-nil rows.request.received); is = subst (λ (x : Asked). Serves v.charter x rows.request.received) (sym asked) rows.request.asks };
+          };
+          talks = λ alone. subst (λ (x : ExchangeView). LineRow v.line [] (hung (said x h.content))) (sym exchange) (rows.talks alone);
+          aim = subst (λ (x : ExchangeView). IsAskedFor v.charter.signer a.grant.asked.value x.asked) (sym exchange) (subst (λ (x : Asked). IsAskedFor v.charter.signer x s.exchange.asked) (sym asked) rows.aim);
+          is = record {
+            head = h.head;
+            head_is = ap (λ (x : ExchangeView). head_of x.place) exchange ∙ h.has.given;
+            gathered = subst (λ (x : Asked). IsGathered x.request.head.method h.head) (sym asked) h.has.gathered;
+            over = subst (λ (x : ExchangeView). IsOverBy last.End x.place) (sym exchange) h.over;
+            read = subst (IsAnswer h.head h.content) (sym is_answer) h.read;
+            wish = subst (λ (x : Answer). IsWish x Stream) (sym is_answer) wish;
+            code = subst (λ (x : Answer). a.grant.code ≡ code_by x.head (status_of x.instruct)) (sym is_answer) p.grant.code;
+            chunked = subst (λ (x : Asked). a.grant.chunked ≡ in_chunks (streamed x.request.head.version)) (sym asked) p.grant.chunked;
+          };
+          calls = rows.times.calls;
+          times = rows.times.row;
+          seat = rows.stays.seat;
+          links = rows.stays.links;
+          dials = rows.stays.dials;
+        };
+        is = record { entries = rows.stays.entries; holds = rows.stays.holds; reports = rows.stays.reports; bytes = rows.bytes };
+        served = rows.stays.served;
+        spec_is = subst (λ (x : Answer). IsHoldOf x a.grant.asked.value.moment a.spec) (sym is_answer) (subst (λ (x : Asked). IsHoldOf answer x.moment a.spec) (sym asked) p.spec_is);
+        fit = fits_by answer.instruct answer.body s.asked.moment a.spec counted wish.1 p.spec_is;
+        head = p.head ∙ ap (λ (x : Answer). stream_head_by x s.asked.request.head.version) (sym is_answer) ∙ ap (λ (x : Asked). stream_head_by a.grant.answer.value x.request.head.version) (sym asked);
+      };
+    }

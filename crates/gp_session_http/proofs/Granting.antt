@@ -1,0 +1,197 @@
+-- What each kind of move does to the rows of a session whose origin's answer asks for a stream.
+use Rattle.std.proofs.Common.{◌≡◌, ◌≢◌, ℕ, ◌<◌, ◌≤◌, ◌==◌, List, [], ◌∷◌, ◌++◌, map, filter, Option, Some, None, option_map, refl, sym, ap, ◌∙◌, subst, arith, append-nil, append_assoc, ◌⊎◌, inl, inr}
+use Rattle.std.specs.List.{All}
+use Rattle.std.proofs.lemmas.List.Elements.{All-nil}
+use Rattle.gp_plain.specs.Fit.{fits}
+use Rattle.gp_plain.specs.Others.{Share, shares}
+use Rattle.gp_plain.specs.Roomy.{Roomy}
+use Rattle.gp_plain.specs.declared.event.Entry.{Entry}
+use Rattle.gp_plain.specs.declared.event.Event.TheVariants.{Attach}
+use Rattle.gp_plain.specs.declared.event.HoldSpec.{HoldSpec}
+use Rattle.gp_plain.specs.declared.event.HoldSpec.TheVariants.{Stream as StreamSpec, Plain, Response, Socket}
+use Rattle.gp_plain.specs.declared.reply.HoldReport.{HoldReport}
+use Rattle.gp_outside.specs.Counts.{Rose, grown}
+use Rattle.gp_outside.specs.Links.{LinkTells}
+use Rattle.gp_hub.specs.Own.{mine}
+use Rattle.gp_session.specs.Seats.{SeatView, MovedSeat, SeatRow, HasNoHolds, Made}
+use Rattle.gp_session.specs.Watches.{WatchView, WatchRow, Uses, Asks as AsksClock}
+use Rattle.gp_session.specs.Wires.{WireView, MovedWire, Sent}
+use Rattle.gp_session.proofs.Moving.{rose_from, later_since, moved_wire_same, moved_wire_again, moved_seat_same, moved_seat_again, busied_from, write_waited_from}
+use Rattle.gp_session_hold.specs.Rows.{EntriesRow, AttachRow, HoldsRow, LastHold, none, holds_of, reports_of, IsReleased}
+use Rattle.gp_session_hold.specs.Unlinked.{without_link}
+use Rattle.gp_session_hold.proofs.Rowing.{holds_none, entries_none, attaches_none}
+use Rattle.gp_session_http.specs.declared.asked.Asked.{Asked}
+use Rattle.gp_session_http.specs.declared.grant.Grant.{Grant}
+use Rattle.gp_session_http.specs.declared.held.Held.{Held}
+use Rattle.gp_session_http.specs.declared.held.Held.TheVariants.{Attaching, Declining, Streaming, Closing, Leaving}
+use Rattle.gp_session_http.specs.declared.held.HeldNext.{HeldNext}
+use Rattle.gp_session_http.specs.declared.held.HeldNext.TheVariants.{Go, Wait, End}
+use Rattle.gp_session_http.specs.Routing.{Charter}
+use Rattle.gp_session_http.specs.Views.{LiveView, Moved, Goes}
+use Rattle.gp_session_http.specs.Trace.{Serves}
+use Rattle.gp_session_http.specs.Holding.{BeginsWith, Granting, IsUnattached, HeldPends, HeldLeads, HeldLeadsTo}
+use Rattle.gp_session_http.proofs.Rows.{line_same, line_again}
+
+abbrev pub with_held : LiveView → WireView → WatchView → SeatView → Roomy HoldReport → LiveView
+with_held v x u t r = record { wire = x; line = v.line; watch = u; seat = t; charter = v.charter; reports = r }
+
+-- moves, and moves one after another
+
+pub goes_on : (v : LiveView) (x : WireView) (u : WatchView) (t : SeatView) (r : Roomy HoldReport) → MovedWire v.wire x → u.start ≡ v.watch.start → MovedSeat v.seat t → Goes v (with_held v x u t r)
+goes_on v x u t r wire watch seat = record { wire = wire; line = line_same v.line; watch = watch; seat = seat; charter = refl }
+
+pub goes_of : (v w : LiveView) → Moved v w → Goes v w
+goes_of v w m = record { wire = m.wire; line = m.line; watch = m.watch; seat = m.seat; charter = m.charter }
+
+pub goes_same : (v : LiveView) → Goes v v
+goes_same v = record { wire = moved_wire_same v.wire; line = line_same v.line; watch = refl; seat = moved_seat_same v.seat; charter = refl }
+
+pub goes_again : (u v w : LiveView) → Goes u v → Goes v w → Goes u w
+goes_again u v w a b = record {
+  wire = moved_wire_again u.wire v.wire w.wire a.wire b.wire;
+  line = line_again u.line v.line w.line a.line b.line;
+  watch = b.watch ∙ a.watch;
+  seat = moved_seat_again u.seat v.seat w.seat a.seat b.seat;
+  charter = b.charter ∙ a.charter;
+}
+
+-- a cause in the last part of a poll is one of the poll
+pub held_pends_from : (u v w : LiveView) (stage : Held) → Goes u v → HeldPends v w stage → HeldPends u w stage
+held_pends_from u v w (Attaching s) m p = busied_from u.seat v.seat w.seat m.seat p
+held_pends_from u v w (Declining s) m p = record { some = p.some; waited = write_waited_from u.wire v.wire w.wire m.wire p.waited }
+held_pends_from u v w (Streaming s) m p = record {
+  wire = p.wire;
+  seat = p.seat;
+  moved_wire = moved_wire_again u.wire v.wire p.wire m.wire p.moved_wire;
+  moved_seat = moved_seat_again u.seat v.seat p.seat m.seat p.moved_seat;
+  now = p.now;
+  moment = p.moment;
+  last = p.last;
+  heard = p.heard;
+  received = p.received;
+  pends = p.pends;
+}
+held_pends_from u v w (Closing s) m p = record { some = p.some; waited = write_waited_from u.wire v.wire w.wire m.wire p.waited }
+held_pends_from u v w (Leaving s) m p = busied_from u.seat v.seat w.seat m.seat p
+
+held_to_from : (u v w : LiveView) (k n : ℕ) (next : HeldNext) → Goes u v → k ≤ n → HeldLeadsTo v w k next → HeldLeadsTo u w n next
+held_to_from u v w k n (Go stage) m le l = (l.0, omega (arith, le, l.1))
+held_to_from u v w k n (Wait stage) m le l = (l.0, held_pends_from u v w stage m l.1)
+held_to_from u v w k n (End ended) m le l = l
+
+pub held_from : (u v w : LiveView) (k n : ℕ) (next : HeldNext) → Goes u v → k ≤ n → HeldLeads v w k next → HeldLeads u w n next
+held_from u v w k n next m le l = record { moved = goes_again u v w m l.moved; to = held_to_from u v w k n next m le l.to }
+
+pub held_live : (v x w : LiveView) (n : ℕ) (next : HeldNext) → v ≡ x → HeldLeads v w n next → HeldLeads x w n next
+held_live v x w n next e l = subst (λ (y : LiveView). HeldLeads y w n next) e l
+
+pub held_is : (v w : LiveView) (n : ℕ) (a b : HeldNext) → a ≡ b → HeldLeads v w n b → HeldLeads v w n a
+held_is v w n a b e l = subst (HeldLeads v w n) (sym e) l
+
+-- the rows that all stages have
+
+pub heard_none : (told : Option (List ℕ)) → told ≡ grown told []
+heard_none None = refl
+heard_none (Some bytes) = ap Some (sym (append-nil bytes))
+
+heard_twice : (told : Option (List ℕ)) (some more : List ℕ) → grown (grown told some) more ≡ grown told (some ++ more)
+heard_twice None some more = refl
+heard_twice (Some bytes) some more = ap Some (append_assoc bytes some more)
+
+more_unused : (Is : List ℕ → Type 0) (received heard : List ℕ) → BeginsWith Is received → BeginsWith Is (received ++ heard)
+more_unused Is received heard b = record { used = b.used; unused = b.unused ++ heard; split = ap (λ (xs : List ℕ). xs ++ heard) b.split ∙ append_assoc b.used b.unused heard; is = b.is }
+
+pub granting_on : (v : LiveView) (x : WireView) (u : WatchView) (t : SeatView) (r : Roomy HoldReport) (g : Grant) → Granting v g → MovedWire v.wire x → (heard : List ℕ) → x.link.received ≡ grown v.wire.link.received heard
+    → Rose u.start.calls u.clock.calls → WatchRow u → (SeatRow v.seat → SeatRow t) → Granting (with_held v x u t r) g
+granting_on v x u t r g h moved heard received calls times row = record {
+  content = h.content;
+  request = record {
+    received = h.request.received ++ heard;
+    since = received ∙ ap (λ told. grown told heard) h.request.since ∙ heard_twice v.wire.start.received h.request.received heard ∙ ap (λ (k : LinkTells). grown k.received (h.request.received ++ heard)) (sym moved.start);
+    asks = more_unused (Serves v.charter g.asked.value) h.request.received heard h.request.asks;
+  };
+  talks = h.talks;
+  aim = h.aim;
+  is = h.is;
+  calls = calls;
+  times = times;
+  seat = row h.seat;
+  links = later_since v.wire x h.links moved;
+  dials = h.dials;
+}
+
+-- the client's end alone moved
+pub granting_wire : (v : LiveView) (x : WireView) (r : Roomy HoldReport) (g : Grant) → Granting v g → MovedWire v.wire x → x.link.received ≡ v.wire.link.received → Granting (with_held v x v.watch v.seat r) g
+granting_wire v x r g h moved same = granting_on v x v.watch v.seat r g h moved [] (same ∙ heard_none v.wire.link.received) h.calls h.times (λ row. row)
+
+-- or the hub's end alone
+pub granting_seat : (v : LiveView) (t : SeatView) (r : Roomy HoldReport) (g : Grant) → Granting v g → (SeatRow v.seat → SeatRow t) → Granting (with_held v v.wire v.watch t r) g
+granting_seat v t r g h row = record {
+  content = h.content;
+  request = h.request;
+  talks = h.talks;
+  aim = h.aim;
+  is = h.is;
+  calls = h.calls;
+  times = h.times;
+  seat = row h.seat;
+  links = h.links;
+  dials = h.dials;
+}
+
+rose_again : (a b c : ℕ) → Rose a b → Rose b c → Rose a c
+rose_again a b c p q = omega (arith, p, q)
+
+-- the clock was asked once more, or not
+pub calls_on : (v u : WatchView) (now : ℕ) → Uses v u now → Rose v.start.calls v.clock.calls → Rose u.start.calls u.clock.calls
+calls_on v u now uses calls = by_move uses.moved.moved
+  where
+    by_move : (u ≡ v) ⊎ AsksClock v u → Rose u.start.calls u.clock.calls
+    by_move (inl same) = subst (λ (w : WatchView). Rose w.start.calls w.clock.calls) (sym same) calls
+    by_move (inr asks) = subst (λ (n : ℕ). Rose n u.clock.calls) (ap (λ t. t.calls) (sym uses.moved.start)) (rose_again v.start.calls v.clock.calls u.clock.calls calls asks.calls)
+
+-- a session that has made no entry
+
+made_same : (s t : SeatView) → t.pass.number ≡ s.pass.number → t.pass.seen ≡ s.pass.seen → Made s [] → Made t []
+made_same s t number seen made = ap (λ (n : ℕ). filter (λ (entry : Entry). entry.who == n) t.pass.seen) number ∙ ap (λ (es : List Entry). filter (λ (entry : Entry). entry.who == s.pass.number) es) seen ∙ made
+
+holdless_same : (s t : SeatView) → t.pass.number ≡ s.pass.number → t.pass.seen ≡ s.pass.seen → HasNoHolds s → HasNoHolds t
+holdless_same s t number seen holds = ap (λ (n : ℕ). shares n t.pass.seen) number ∙ ap (λ (es : List Entry). shares s.pass.number es) seen ∙ holds
+
+pub unattached_same : (v : LiveView) (t : SeatView) (r : Roomy HoldReport) → t.pass.number ≡ v.seat.pass.number → t.pass.seen ≡ v.seat.pass.seen → r.items ≡ v.reports.items → IsUnattached v → IsUnattached (with_held v v.wire v.watch t r)
+unattached_same v t r number seen items is = record { entries = made_same v.seat t number seen is.entries; holds = holdless_same v.seat t number seen is.holds; reports = items ∙ is.reports; bytes = is.bytes }
+
+pub unattached_entries : (l : LiveView) → IsUnattached l → EntriesRow l.seat
+unattached_entries l is = entries_none l.seat is.entries
+
+pub unattached_attaches : (l : LiveView) → IsUnattached l → AttachRow l.seat [] None
+unattached_attaches l is = attaches_none l.seat is.entries is.holds
+
+pub unattached_holds : (l : LiveView) → IsUnattached l → HoldsRow l.seat l.reports.items none
+unattached_holds l is = subst (λ (items : List HoldReport). HoldsRow l.seat items none) (sym is.reports) (holds_none l.seat is.holds)
+
+pub none_reported : (l : LiveView) → HoldsRow l.seat l.reports.items none → l.reports.items ≡ reports_of (holds_of l.seat)
+none_reported l h = h.reported ∙ ap reports_of (sym h.stands)
+
+pub none_kept : (l : LiveView) → HoldsRow l.seat l.reports.items none → All IsReleased (holds_of l.seat)
+none_kept l h = subst (All IsReleased) (sym h.stands) h.released
+
+-- a hold without a link stays so
+
+pub unlinked_twice : (s : HoldSpec) → without_link (without_link s) ≡ without_link s
+unlinked_twice (StreamSpec opening channel prev link) = refl
+unlinked_twice (Plain opening channels) = refl
+unlinked_twice (Response channels prev deadline again) = refl
+unlinked_twice Socket = refl
+
+pub unlinked_fits : (s : HoldSpec) → fits (Attach (without_link s)) ≡ fits (Attach s)
+unlinked_fits (StreamSpec opening channel prev link) = refl
+unlinked_fits (Plain opening channels) = refl
+unlinked_fits (Response channels prev deadline again) = refl
+unlinked_fits Socket = refl
+
+pub unlinked_again : (asked : Option HoldSpec) (s : HoldSpec) → option_map without_link asked ≡ Some s → option_map without_link asked ≡ Some (without_link s)
+unlinked_again None s e = let no : ⊥ = cc in absurd no
+unlinked_again (Some x) s e =
+    let is : without_link x ≡ s = cc in
+    ap Some (sym (unlinked_twice x) ∙ ap without_link is)

@@ -1,0 +1,66 @@
+-- What is held for an answer that asks for a stream, and how the stream begins (RFC 9112, sections 6 and 7).
+use Rattle.std.specs.Prelude.{◌≡◌, ℕ, List, false, Option, Some, None, option_map}
+use Rattle.gp_plain.specs.declared.event.HoldSpec.{HoldSpec}
+use Rattle.gp_plain.specs.declared.http.Response.{Response}
+use Rattle.gp_head.specs.Texts.{response_text}
+use Rattle.gp_answer.specs.Answers.{answer_head}
+use Rattle.gp_answer.specs.Framings.{streamed}
+use Rattle.gp_instruct.specs.declared.instruct.Instruct.{Instruct}
+use Rattle.gp_instruct.specs.Spec.{spec}
+use Rattle.gp_instruct_json.specs.Answers.{IsAnswer}
+use Rattle.gp_instruct_json.specs.declared.answer.Answer.{Answer}
+use Rattle.gp_exchange.specs.Views.{ExchangeView}
+use Rattle.gp_exchange.specs.Answers.{head_of, IsOverBy}
+use Rattle.gp_exchange.specs.declared.answer.Last.TheVariants as last
+use Rattle.gp_session_hold.specs.Unlinked.{without_link}
+use Rattle.gp_session_http.specs.declared.asked.Asked.{Asked}
+use Rattle.gp_session_http.specs.declared.attaching.Attaching.{Attaching}
+use Rattle.gp_session_http.specs.declared.grant.Grant.{Grant}
+use Rattle.gp_session_http.specs.declared.grant.Wish.TheVariants.{Stream}
+use Rattle.gp_session_http.specs.Wishes.{IsWish, status_of}
+use Rattle.gp_session_http.specs.Asking.{IsGathered}
+use Rattle.gp_session_http.specs.Passing.{code_by, reason_by, in_chunks}
+
+-- the head with which a stream begins: its body is of unknown length
+abbrev pub stream_head_by : Answer → ℕ → List ℕ
+stream_head_by answer version =
+    response_text (answer_head (code_by answer.head (status_of answer.instruct)) (reason_by answer.head (status_of answer.instruct)) answer.head.fields (streamed version))
+
+abbrev pub hold_by : Option Instruct → List ℕ → ℕ → Option HoldSpec
+hold_by None body now = None
+hold_by (Some instruct) body now = spec instruct body now false
+
+-- the hold that an answer asks for at a moment; until missing items can be asked for it has no link
+abbrev pub IsHoldOf : Answer → ℕ → HoldSpec → Type 0
+IsHoldOf answer now held = option_map without_link (hold_by answer.instruct answer.body now) ≡ Some held
+
+-- what is remembered of an answer that asks for a stream, its status and its framing
+pub record IsGrantOf (asked : Asked) (x : ExchangeView) (answer : Answer) (g : Grant) : Type 0 where
+  pub asked_is : g.asked.value ≡ asked
+  pub exchange_is : g.exchange.value ≡ x
+  pub answer_is : g.answer.value ≡ answer
+  pub code : g.code ≡ code_by answer.head (status_of answer.instruct)
+  pub chunked : g.chunked ≡ in_chunks (streamed asked.request.head.version)
+
+pub record IsPrepared (asked : Asked) (x : ExchangeView) (answer : Answer) (a : Attaching) : Type 0 where
+  pub grant : IsGrantOf asked x answer a.grant
+  pub head : a.head ≡ stream_head_by answer asked.request.head.version
+  pub spec_is : IsHoldOf answer asked.moment a.spec
+
+abbrev pub stream_head : Grant → List ℕ
+stream_head g = stream_head_by g.answer.value g.asked.value.request.head.version
+
+-- such a hold is asked for
+abbrev pub AsksFor : Grant → HoldSpec → Type 0
+AsksFor g held = IsHoldOf g.answer.value g.asked.value.moment held
+
+-- the answer was read of the whole content of the talk, isn't to HEAD, and asks for a stream
+pub record IsGrant (g : Grant) (content : List ℕ) : Type 0 where
+  pub head : Response
+  pub head_is : head_of g.exchange.value.place ≡ Some head
+  pub gathered : IsGathered g.asked.value.request.head.method head
+  pub over : IsOverBy last.End g.exchange.value.place
+  pub read : IsAnswer head content g.answer.value
+  pub wish : IsWish g.answer.value Stream
+  pub code : g.code ≡ code_by g.answer.value.head (status_of g.answer.value.instruct)
+  pub chunked : g.chunked ≡ in_chunks (streamed g.asked.value.request.head.version)

@@ -1,0 +1,142 @@
+//! What an origin's answer asks to hold, and how the client's stream begins.
+ghost use Rattle.std.specs.Prelude.{◌≡◌, IfOk};
+ghost use Rattle.gp_session_http.specs.Grants.{IsHoldOf, IsPrepared, stream_head_by};
+ghost use Rattle.gp_session_http.specs.Wishes.{IsWish, most_gathered, status_of};
+ghost use Rattle.gp_session_http.specs.declared.grant.Wish.TheVariants as wish;
+
+use crate::asked::Asked;
+use crate::attaching::Attaching;
+use crate::passed::{code_by, in_chunks, reason_by};
+use gp_answer::{answer_head, streamed};
+use gp_exchange::Exchange;
+use gp_instruct::{Instruct, Mode};
+use gp_instruct_json::{Answer, is_instruct};
+use gp_plain::{Body, HoldSpec, Response};
+use gp_session_hold::without_link;
+use std::alloc::{AllocError, Global};
+use std::snapshot::Snapshot;
+
+/// The most bytes of an opening.
+const MOST_OPENING: usize = 262_144;
+
+/// The most bytes of a body that is an instruction.
+const MOST_INSTRUCTION: usize = 524_288;
+
+/// An answer that asks for a stream. What was asked, the talk and the answer are remembered by contracts alone.
+#[derive(Drop)]
+pub(crate) struct Grant {
+    pub(crate) asked: Snapshot<Asked>,
+    pub(crate) exchange: Snapshot<Exchange>,
+    pub(crate) answer: Snapshot<Answer>,
+    /// The status that is sent.
+    pub(crate) code: u16,
+    /// Whether what the hold gives goes in chunks.
+    pub(crate) chunked: bool,
+}
+
+/// What a whole answer asks for.
+#[derive(Clone, Copy, Drop)]
+pub(crate) enum Wish {
+    /// A stream, with an opening that isn't too long.
+    Stream,
+    /// A stream, with too long an opening.
+    LongStream,
+    /// No hold: the client gets the response as it is.
+    Whole,
+    /// A long poll, which isn't served yet.
+    Other,
+}
+
+/// How many bytes of a body are gathered at the most.
+pub(crate) fn most_gathered(head: &Response) -> usize
+    ensures { result ≡ most_gathered head.now }
+{
+    if is_instruct(head) {
+        MOST_INSTRUCTION
+    } else {
+        MOST_OPENING
+    }
+}
+
+/// Whether an answer asks for a stream.
+pub(crate) fn wish_of(answer: &Answer) -> Wish
+    ensures { IsWish answer.now result }
+{
+    match &answer.instruct {
+        None => Wish::Whole,
+        Some(instruct) => match instruct.mode {
+            Some(Mode::Stream) => {
+                if answer.body.len() <= MOST_OPENING {
+                    Wish::Stream
+                } else {
+                    Wish::LongStream
+                }
+            }
+            Some(Mode::Response) => Wish::Other,
+            None => Wish::Whole,
+        },
+    }
+}
+
+/// The status that an instruction asks for in place of the response's own.
+pub(crate) fn status_of(instruct: &Option<Instruct>) -> Option<u16>
+    ensures { result ≡ status_of instruct.now }
+{
+    match instruct {
+        None => None,
+        Some(instruct) => instruct.status,
+    }
+}
+
+/// The head with which a stream begins, for a client of this version.
+fn stream_head(alloc: Global, answer: &Answer, version: u8) -> Result<Body, AllocError>
+    ensures { IfOk result (λ text. text ≡ stream_head_by answer.now version) }
+{
+    let status = status_of(&answer.instruct);
+    let head = &answer.head;
+    answer_head(
+        alloc,
+        code_by(head, status),
+        reason_by(head, status),
+        head.fields.as_slice(),
+        streamed(version),
+    )
+}
+
+/// The hold that an answer asks for. Until missing items can be asked for it has no link.
+fn hold_of(alloc: Global, answer: Answer, now: u64) -> Result<HoldSpec, AllocError>
+    requires { IsWish answer wish.Stream }
+    ensures { IfOk result (IsHoldOf answer now) }
+{
+    let Answer { instruct, body, .. } = answer;
+    match instruct {
+        None => unreachable!(),
+        Some(instruct) => match instruct.into_spec(alloc, body, now, false)? {
+            None => unreachable!(),
+            Some(spec) => Ok(without_link(spec)),
+        },
+    }
+}
+
+/// What is attached for an answer that asks for a stream, and the head with which the stream begins.
+pub(crate) fn prepare(
+    alloc: Global,
+    asked: &Asked,
+    exchange: &Exchange,
+    answer: Answer,
+) -> Result<Attaching, AllocError>
+    requires { IsWish answer wish.Stream }
+    ensures { IfOk result (IsPrepared asked.now exchange.now answer) }
+{
+    let version = asked.request.head.version;
+    let head = stream_head(alloc, &answer, version)?;
+    let grant = Grant {
+        asked: Snapshot::of(asked),
+        exchange: Snapshot::of(exchange),
+        answer: Snapshot::of(&answer),
+        code: code_by(&answer.head, status_of(&answer.instruct)),
+        chunked: in_chunks(streamed(version)),
+    };
+    let spec = hold_of(alloc, answer, asked.moment)?;
+    Ok(Attaching { grant, head, spec })
+}

@@ -1,0 +1,63 @@
+//! The stages of a session whose origin's answer asks for a stream.
+ghost use Rattle.gp_session_http.specs.Holding.{HeldLeads, HeldTold, held_rank};
+
+use crate::attaching::Attaching;
+use crate::closing::Closing;
+use crate::declining::Declining;
+use crate::leaving::Leaving;
+use crate::live::Live;
+use crate::stage::Ended;
+use crate::streaming::Streaming;
+use gp_outside::{Clock, Dial, Link};
+
+/// What a session expects once an answer asks for a stream.
+///
+/// ```text
+/// Attaching -> Streaming -> Closing -> the end
+///     |  \          \-> Leaving -> the end
+///     |   \-> Leaving -> the end
+///     \-> Declining -> the end
+/// ```
+#[derive(Drop)]
+pub(crate) enum Held {
+    /// The hub's turn, to attach the hold.
+    Attaching(Attaching),
+    /// The refusal to go out, since no hold was made.
+    Declining(Declining),
+    /// What the hold gives.
+    Streaming(Streaming),
+    /// The last bytes of a stream that has ended to go out.
+    Closing(Closing),
+    /// The hub's turn, to let the hold go.
+    Leaving(Leaving),
+}
+
+/// Where a move leads.
+#[derive(Drop)]
+pub(crate) enum HeldNext {
+    /// On, in this poll.
+    Go(Held),
+    /// To the next poll.
+    Wait(Held),
+    /// To the end.
+    End(Ended),
+}
+
+impl Held {
+    /// Makes the next move.
+    pub(crate) fn advance<'h, L: Link, D: Dial, C: Clock>(
+        self,
+        live: &mut Live<'h, L, D, C>,
+    ) -> HeldNext
+        requires told { HeldTold live.old self }
+        ensures leads { HeldLeads live.old live.new (held_rank self) result }
+    {
+        match self {
+            Held::Attaching(stage) => stage.advance(live),
+            Held::Declining(stage) => stage.advance(live),
+            Held::Streaming(stage) => stage.advance(live),
+            Held::Closing(stage) => stage.advance(live),
+            Held::Leaving(stage) => stage.advance(live),
+        }
+    }
+}
