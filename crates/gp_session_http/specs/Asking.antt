@@ -1,5 +1,5 @@
 -- What is asked of an origin for a client, and why an origin's answer can't be passed on.
-use Rattle.std.specs.Prelude.{◌≡◌, ◌≢◌, ℕ, ◌+◌, ◌-◌, ◌^◌, ◌<◌, ◌⊎◌, min, Bool, true, false, List, [], length, bytes_eq, codes, Option, Some, None, option_map, Result, Ok, Err, ⊤}
+use Rattle.std.specs.Prelude.{◌≡◌, ◌≢◌, ℕ, ◌+◌, ◌-◌, ◌^◌, ◌<◌, ◌⊎◌, min, Bool, true, false, List, [], ◌∷◌, ◌++◌, length, All, bytes_eq, codes, Option, Some, None, option_map, Result, Ok, Err, ⊤}
 use Rattle.gp_plain.specs.declared.http.Address.{Address}
 use Rattle.gp_plain.specs.declared.http.Request.{Request}
 use Rattle.gp_plain.specs.declared.http.Response.{Response}
@@ -14,7 +14,6 @@ use Rattle.gp_forward.specs.Alone.{IsForwarded}
 use Rattle.gp_forward.specs.Conditions.{CanAsk}
 use Rattle.gp_instruct.specs.declared.instruct.Instruct.{Instruct}
 use Rattle.gp_instruct.specs.declared.instruct.Mode.{Mode as Hold}
-use Rattle.gp_instruct.specs.declared.instruct.Mode.TheVariants.{Stream as Open, Response as Poll}
 use Rattle.gp_instruct.specs.declared.fault.InstructFault.{InstructFault}
 use Rattle.gp_instruct.specs.declared.fault.InstructFault.TheVariants.{NoMemory as OutOfMemory}
 use Rattle.gp_instruct.specs.Heads.{IsInstruct, IsInstructFault}
@@ -33,8 +32,9 @@ use Rattle.gp_exchange.specs.declared.place.Place.{Place}
 use Rattle.gp_exchange.specs.declared.place.Place.TheVariants.{Unbegun}
 use Rattle.gp_intake.specs.declared.body.Whole.{Whole}
 use Rattle.gp_session.specs.Lines.{LineView}
+use Rattle.gp_session_wait.specs.declared.wait.Last.{Last as LastItem}
 use Rattle.gp_session_http.specs.declared.asked.Asked.{Asked}
-use Rattle.gp_session_http.specs.declared.grant.Wish.TheVariants.{LongStream, Other}
+use Rattle.gp_session_http.specs.declared.grant.Wish.TheVariants.{LongStream, LongPoll}
 use Rattle.gp_session_http.specs.Wishes.{IsWish, most_gathered}
 use Rattle.gp_session_http.specs.declared.verdict.Verdict.{Verdict}
 use Rattle.gp_session_http.specs.declared.verdict.Verdict.TheVariants.{Pass, Gather, Refuse, NoMemory}
@@ -58,11 +58,26 @@ issuer = codes "pushpin"
 abbrev pub sig_at : Signer → ℕ → Option (List ℕ)
 sig_at signer now = option_map (λ (key : List ℕ). token_of key issuer (expiry now)) signer.key
 
--- what is asked in the talk: the forwarded request, of the picked address, with the token of that moment; the response may have
--- a body of any length
+-- how an origin is told of the last item that a client has
+abbrev pub last_text : LastItem → List ℕ
+last_text item = item.channel ++ codes "; last-id=" ++ item.id
+
+abbrev pub lasts_of : Option LastItem → List (List ℕ)
+lasts_of None = []
+lasts_of (Some item) = last_text item ∷ []
+
+abbrev pub AreValues : List (List ℕ) → Type 0
+AreValues lasts = All IsFieldValue lasts
+
+-- the request again, at a moment, for a client that has this item last
+abbrev pub asked_after : LastItem → ℕ → ℕ → Asked → Asked
+asked_after item repeats moment asked = record { request = asked.request; address = asked.address; moment = moment; repeats = repeats; last = Some item }
+
+-- what is asked in the talk: the forwarded request, of the picked address, with the token of that moment, and with the last item that
+-- the client has where the request is repeated; the response may have a body of any length
 pub record IsAskedFor (signer : Signer) (asked : Asked) (a : AskedView) : Type 0 where
   pub to : a.to ≡ asked.address
-  pub request : IsForwarded asked.request.head (body_sent (plan_of_request asked.request.head) asked.request.body) asked.address (sig_at signer asked.moment) [] a.request
+  pub request : IsForwarded asked.request.head (body_sent (plan_of_request asked.request.head) asked.request.body) asked.address (sig_at signer asked.moment) (lasts_of asked.last) a.request
   pub method : a.method ≡ asked.request.head.method
   pub limit : a.limit ≡ 2 ^ 64 - 1
 
@@ -97,19 +112,19 @@ pub record IsPassedWith (head : Response) (status : Option ℕ) : Type 0 where
 abbrev pub IsPassed : List ℕ → Response → Option ℕ → Type 0
 IsPassed method head status = ((is_head method ≡ true) × (status ≡ None)) ⊎ ((is_head method ≡ false) × IsPassedWith head status)
 
--- an answer whose body is gathered: it is an instruction, or its fields ask for a stream
+-- an answer whose body is gathered: it is an instruction, or its fields ask for a hold
 abbrev pub AsksInFields : Response → Hold → Type 0
 AsksInFields head mode = (has_type head.fields ≡ false) × ((i : Instruct) × IsInstruct head.fields (Some i) × (i.mode ≡ Some mode))
 
 abbrev pub AsksToGather : Response → Type 0
-AsksToGather head = (has_type head.fields ≡ true) ⊎ AsksInFields head Open
+AsksToGather head = (has_type head.fields ≡ true) ⊎ ((mode : Hold) × AsksInFields head mode)
 
 abbrev pub IsGathered : List ℕ → Response → Type 0
 IsGathered method head = (is_head method ≡ false) × AsksToGather head
 
--- an answer that isn't passed on: its instruction is refused. So is one that asks for a long poll, until those are served
+-- an answer that isn't passed on: its instruction is refused
 abbrev pub IsInstructRefused : Response → Type 0
-IsInstructRefused head = (has_type head.fields ≡ false) × (((f : InstructFault) × IsInstructFault head.fields f × (f ≢ OutOfMemory)) ⊎ ((i : Instruct) × IsInstruct head.fields (Some i) × (i.mode ≡ Some Poll)))
+IsInstructRefused head = (has_type head.fields ≡ false) × ((f : InstructFault) × IsInstructFault head.fields f × (f ≢ OutOfMemory))
 
 abbrev pub IsVerdict : List ℕ → Response → Verdict → Type 0
 IsVerdict method head (Pass status) = IsPassed method head status
@@ -167,14 +182,14 @@ pub record FailsByLength (method : List ℕ) (x : ExchangeView) (content : List 
   pub has : HasGatheredHead method x head
   pub long : most_gathered head < length content
 
--- or the opening that it gives is
+-- or the opening that it gives is, or the response that a long poll has of its own
 pub record FailsByOpening (method : List ℕ) (x : ExchangeView) (content : List ℕ) : Type 0 where
   pub head : Response
   pub has : HasGatheredHead method x head
   pub over : IsOverBy last.End x.place
   pub answer : Answer
   pub read : IsAnswer head content answer
-  pub wish : IsWish answer LongStream
+  pub wish : IsWish answer LongStream ⊎ IsWish answer LongPoll
 
 -- the head that was given is refused
 pub record FailsByHead (method : List ℕ) (x : ExchangeView) : Type 0 where
@@ -183,12 +198,12 @@ pub record FailsByHead (method : List ℕ) (x : ExchangeView) : Type 0 where
   pub get : is_head method ≡ false
   pub refused : IsInstructRefused head
 
--- or what the whole content asks for is; so is a long poll, until those are served
+-- or what the whole content asks for is
 pub record FailsByContent (method : List ℕ) (x : ExchangeView) (content : List ℕ) : Type 0 where
   pub head : Response
   pub has : HasGatheredHead method x head
   pub over : IsOverBy last.End x.place
-  pub refused : IsAnswerRefused head content ⊎ ((answer : Answer) × IsAnswer head content answer × IsWish answer Other)
+  pub refused : IsAnswerRefused head content
 
 abbrev pub FailsBy : LineView → List ℕ → ExchangeView → List ℕ → Why → Type 0
 FailsBy l method x content why.Nothing = ⊥

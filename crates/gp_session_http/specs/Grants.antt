@@ -1,24 +1,19 @@
 -- What is held for an answer that asks for a stream, and how the stream begins (RFC 9112, sections 6 and 7).
 use Rattle.std.specs.Prelude.{◌≡◌, ℕ, List, false, Option, Some, None, option_map}
 use Rattle.gp_plain.specs.declared.event.HoldSpec.{HoldSpec}
-use Rattle.gp_plain.specs.declared.http.Response.{Response}
 use Rattle.gp_head.specs.Texts.{response_text}
 use Rattle.gp_answer.specs.Answers.{answer_head}
 use Rattle.gp_answer.specs.Framings.{streamed}
 use Rattle.gp_instruct.specs.declared.instruct.Instruct.{Instruct}
 use Rattle.gp_instruct.specs.Spec.{spec}
-use Rattle.gp_instruct_json.specs.Answers.{IsAnswer}
 use Rattle.gp_instruct_json.specs.declared.answer.Answer.{Answer}
 use Rattle.gp_exchange.specs.Views.{ExchangeView}
-use Rattle.gp_exchange.specs.Answers.{head_of, IsOverBy}
-use Rattle.gp_exchange.specs.declared.answer.Last.TheVariants as last
 use Rattle.gp_session_hold.specs.Unlinked.{without_link}
 use Rattle.gp_session_http.specs.declared.asked.Asked.{Asked}
 use Rattle.gp_session_http.specs.declared.attaching.Attaching.{Attaching}
 use Rattle.gp_session_http.specs.declared.grant.Grant.{Grant}
 use Rattle.gp_session_http.specs.declared.grant.Wish.TheVariants.{Stream}
 use Rattle.gp_session_http.specs.Wishes.{IsWish, status_of}
-use Rattle.gp_session_http.specs.Asking.{IsGathered}
 use Rattle.gp_session_http.specs.Passing.{code_by, reason_by, in_chunks}
 
 -- the head with which a stream begins: its body is of unknown length
@@ -54,13 +49,8 @@ stream_head g = stream_head_by g.answer.value g.asked.value.request.head.version
 abbrev pub AsksFor : Grant → HoldSpec → Type 0
 AsksFor g held = IsHoldOf g.answer.value g.asked.value.moment held
 
--- the answer was read of the whole content of the talk, isn't to HEAD, and asks for a stream
-pub record IsGrant (g : Grant) (content : List ℕ) : Type 0 where
-  pub head : Response
-  pub head_is : head_of g.exchange.value.place ≡ Some head
-  pub gathered : IsGathered g.asked.value.request.head.method head
-  pub over : IsOverBy last.End g.exchange.value.place
-  pub read : IsAnswer head content g.answer.value
+-- the answer asks for a stream; its code and its framing are those of the client's answer
+pub record IsGrant (g : Grant) : Type 0 where
   pub wish : IsWish g.answer.value Stream
   pub code : g.code ≡ code_by g.answer.value.head (status_of g.answer.value.instruct)
   pub chunked : g.chunked ≡ in_chunks (streamed g.asked.value.request.head.version)

@@ -1,31 +1,26 @@
--- What a session says of its ends once its origin's answer asks for a stream, where a move leads, why it waits, and how it ends. All
--- is said since the session began.
-use Rattle.std.specs.Prelude.{◌≡◌, ◌≢◌, ℕ, ◌+◌, ◌<◌, ◌⊎◌, true, List, [], ◌∷◌, ◌++◌, All, Option, Some, None}
-use Rattle.std.specs.List.{Contains}
+-- What a session says of its ends once its origin's answer asks for a hold, where a move leads, why it waits, and how it ends. All is said
+-- since the session began.
+use Rattle.std.specs.Prelude.{◌≡◌, ◌≢◌, ℕ, ◌+◌, ◌<◌, ◌⊎◌, true, List, [], length, All, Option, Some, None, ⊤}
 use mathlib.Core.List.{IsPrefix}
 use Rattle.gp_plain.specs.Fit.{fits}
 use Rattle.gp_plain.specs.Others.{Share}
 use Rattle.gp_plain.specs.declared.event.Event.TheVariants.{Attach}
-use Rattle.gp_plain.specs.declared.event.HoldSpec.{HoldSpec}
 use Rattle.gp_plain.specs.declared.reply.EndCause.{EndCause}
-use Rattle.gp_outside.specs.Counts.{Rose, grown}
-use Rattle.gp_outside.specs.Dials.{DialLater, IsIdle}
-use Rattle.gp_outside.specs.Links.{LinkLater}
-use Rattle.gp_answer.specs.declared.refusal.Refusal.TheVariants.{Unavailable}
+use Rattle.gp_outside.specs.Counts.{grown}
 use Rattle.gp_hub.specs.declared.outcome.SessionEnd.{SessionEnd}
 use Rattle.gp_hub.specs.declared.outcome.SessionEnd.TheVariants.{Sent as WasSent, Cut, ClientGone, Worn, NoMemory}
 use Rattle.gp_hub.specs.declared.outcome.Why.{Why}
 use Rattle.gp_hub.specs.declared.outcome.Why.TheVariants as why
 use Rattle.gp_session.specs.Causes.{WriteWaited, HasFailed, HasEnded}
-use Rattle.gp_session.specs.Lines.{hung, LineRow}
-use Rattle.gp_session.specs.Seats.{SeatView, MovedSeat, SeatRow, HasNoHolds, IsServed, IsWorn, Made, Busied}
-use Rattle.gp_session.specs.Watches.{WatchRow}
-use Rattle.gp_session.specs.Wires.{WireView, MovedWire, RequestRow, BytesRow, Sent, exactly}
+use Rattle.gp_session.specs.Seats.{SeatView, MovedSeat, SeatRow, IsServed, IsWorn, Busied}
+use Rattle.gp_session.specs.Wires.{WireView, MovedWire, BytesRow, Sent, exactly}
 use Rattle.gp_session_hold.specs.Leaves.{stream_end}
 use Rattle.gp_session_hold.specs.Polls.{StreamPends}
-use Rattle.gp_session_hold.specs.Rows.{KeptView, IsKept, IsOver, IsReleased, LastHold, none, kept, over, holds_of, reports_of, numbers_of, HoldsRow, EntriesRow, DetachedRow, AttachRow, stream_text}
+use Rattle.gp_session_hold.specs.Rows.{KeptView, IsKept, IsOver, IsReleased, none, kept, over, holds_of, reports_of, HoldsRow, EntriesRow, DetachedRow, stream_text}
 use Rattle.gp_session_hold.specs.Streams.{StreamView, Streams, Finished, Stopped}
 use Rattle.gp_session_hold.specs.Unlinked.{IsUnlinked}
+use Rattle.gp_session_wait.specs.Waits.{most_repeats}
+use Rattle.gp_session_http.specs.declared.asking.Asking.{Asking as AskingStage}
 use Rattle.gp_session_http.specs.declared.attaching.Attaching.{Attaching as AttachingStage}
 use Rattle.gp_session_http.specs.declared.declining.Declining.{Declining as DecliningStage}
 use Rattle.gp_session_http.specs.declared.streaming.Streaming.{Streaming as StreamingStage}
@@ -35,70 +30,31 @@ use Rattle.gp_session_http.specs.declared.leaving.Parting.{Parting}
 use Rattle.gp_session_http.specs.declared.leaving.Parting.TheVariants.{Gone, Wanting}
 use Rattle.gp_session_http.specs.declared.grant.Grant.{Grant}
 use Rattle.gp_session_http.specs.declared.held.Held.{Held}
-use Rattle.gp_session_http.specs.declared.held.Held.TheVariants.{Attaching, Declining, Streaming, Closing, Leaving}
+use Rattle.gp_session_http.specs.declared.held.Held.TheVariants.{Attaching, Declining, Streaming, Closing, Leaving, Beginning, Denying, Waiting, Answering, Departing}
 use Rattle.gp_session_http.specs.declared.held.HeldNext.{HeldNext}
-use Rattle.gp_session_http.specs.declared.held.HeldNext.TheVariants.{Go, Wait, End}
+use Rattle.gp_session_http.specs.declared.held.HeldNext.TheVariants.{Go, Wait, Again, End}
+use Rattle.gp_session_http.specs.declared.poll.Poll.{Poll}
 use Rattle.gp_session_http.specs.declared.stage.Ended.{Ended}
-use Rattle.gp_session_http.specs.Routing.{Charter, refusal_text}
-use Rattle.gp_session_http.specs.Asking.{IsAskedFor}
+use Rattle.gp_session_http.specs.declared.stage.Stage.TheVariants.{Asking}
 use Rattle.gp_session_http.specs.Grants.{IsGrant, AsksFor, stream_head}
+use Rattle.gp_session_http.specs.Turns.{Turn}
+use Rattle.gp_session_http.specs.Trace.{Told}
+use Rattle.gp_session_http.specs.Heard.{Heard, IsUnattached, IsDeclined, HasAttached, HasNumber, full_text, end_of}
+use Rattle.gp_session_http.specs.LongPolls.{Polling, PollEnds, BeginningTold, DenyingTold, WaitingTold, AnsweringTold, DepartingTold}
 use Rattle.gp_session_http.specs.Views.{LiveView, Goes}
-use Rattle.gp_session_http.specs.Trace.{Serves}
 
--- of the bytes received a beginning is so, and the rest isn't used
-pub record BeginsWith (Is : List ℕ → Type 0) (received : List ℕ) : Type 0 where
-  pub used : List ℕ
-  pub unused : List ℕ
-  pub split : received ≡ used ++ unused
-  pub is : Is used
-
--- Rows: the request, the talk, the times and what no move changes. The request was whole, and was asked of the picked address in one
--- talk, which is over; its answer asks for a stream. What the client sends behind its request isn't used. The clock was asked, and
--- the moment of a poll is its last answer.
+-- Rows that all stages of a stream have: the answer asks for it
 pub record Granting (l : LiveView) (g : Grant) : Type 0 where
-  pub content : List ℕ
-  pub request : RequestRow l.wire (BeginsWith (Serves l.charter g.asked.value))
-  pub talks : IsIdle l.line.start → LineRow l.line [] (hung (record { exchange = g.exchange.value; given = content }))
-  pub aim : IsAskedFor l.charter.signer g.asked.value g.exchange.value.asked
-  pub is : IsGrant g content
-  pub calls : Rose l.watch.start.calls l.watch.clock.calls
-  pub times : WatchRow l.watch
-  pub seat : SeatRow l.seat
-  pub links : LinkLater l.wire.start l.wire.link
-  pub dials : DialLater l.line.start l.line.dial
+  pub heard : Heard l g.asked.value g.exchange.value g.answer.value
+  pub is : IsGrant g
 
 -- the stream of a hold, with the answer's framing and head
 abbrev pub stream_of : Grant → KeptView → StreamView
 stream_of g hold = record { hold = hold; chunked = g.chunked; head = stream_head g }
 
--- Rows: the entries, the attaches and the holds. The session has made no entry
-pub record IsUnattached (l : LiveView) : Type 0 where
-  pub entries : Made l.seat []
-  pub holds : HasNoHolds l.seat
-  pub reports : l.reports.items ≡ []
-  pub bytes : BytesRow l.wire (exactly [])
-
--- or its only Attach, of the hold that is asked for, made no hold
-pub record IsDeclined (l : LiveView) (g : Grant) : Type 0 where
-  pub spec : HoldSpec
-  pub spec_is : AsksFor g spec
-  pub entries : EntriesRow l.seat
-  pub attaches : AttachRow l.seat [] (Some spec)
-  pub holds : HoldsRow l.seat l.reports.items none
-
--- or it made one; what became of this is said beside
-pub record HasAttached (l : LiveView) (g : Grant) : Type 0 where
-  pub spec : HoldSpec
-  pub spec_is : AsksFor g spec
-  pub attaches : AttachRow l.seat (spec ∷ []) None
-
--- the refusal where as many holds are kept as may be; it isn't to HEAD
-abbrev pub full_text : List ℕ
-full_text = refusal_text Unavailable []
-
 pub record AttachingTold (l : LiveView) (s : AttachingStage) : Type 0 where
   pub rows : Granting l s.grant
-  pub is : IsUnattached l
+  pub is : IsUnattached l rows.heard.turns
   pub served : IsServed l.seat
   pub spec_is : AsksFor s.grant s.spec
   pub fit : fits (Attach s.spec) ≡ true
@@ -106,14 +62,14 @@ pub record AttachingTold (l : LiveView) (s : AttachingStage) : Type 0 where
 
 pub record DecliningTold (l : LiveView) (s : DecliningStage) : Type 0 where
   pub rows : Granting l s.grant
-  pub is : IsDeclined l s.grant
+  pub is : IsDeclined l rows.heard.turns (AsksFor s.grant)
   pub served : IsServed l.seat
   pub bytes : BytesRow l.wire (exactly full_text)
 
 -- a hold is kept, and there is room for its report
 pub record Keeps (l : LiveView) (g : Grant) (hold : KeptView) : Type 0 where
   pub rows : Granting l g
-  pub attached : HasAttached l g
+  pub attached : HasAttached l rows.heard.turns (AsksFor g)
   pub entries : EntriesRow l.seat
   pub holds : HoldsRow l.seat l.reports.items (kept hold)
   pub room : 0 < l.reports.spare
@@ -135,13 +91,9 @@ pub record LeavingTold (l : LiveView) (s : LeavingStage) : Type 0 where
   pub served : IsServed l.seat
   pub leaves : LeavesAs s.parting l (stream_of s.grant s.hold)
 
--- the session attached a hold of this number
-abbrev pub HasNumber : LiveView → KeptView → Type 0
-HasNumber l hold = Contains (numbers_of (holds_of l.seat)) hold.number
-
 -- its end was told, and it is reported
-pub record IsClosed (l : LiveView) (g : Grant) (hold : KeptView) (cause : EndCause) : Type 0 where
-  pub attached : HasAttached l g
+pub record IsClosed (l : LiveView) (turns : List Turn) (g : Grant) (hold : KeptView) (cause : EndCause) : Type 0 where
+  pub attached : HasAttached l turns (AsksFor g)
   pub own : HasNumber l hold
   pub entries : EntriesRow l.seat
   pub holds : HoldsRow l.seat l.reports.items none
@@ -150,7 +102,7 @@ pub record IsClosed (l : LiveView) (g : Grant) (hold : KeptView) (cause : EndCau
 pub record ClosingTold (l : LiveView) (s : ClosingStage) : Type 0 where
   pub rows : Granting l s.grant
   pub served : IsServed l.seat
-  pub is : IsClosed l s.grant s.hold.value s.cause
+  pub is : IsClosed l rows.heard.turns s.grant s.hold.value s.cause
 
 abbrev pub HeldTold : LiveView → Held → Type 0
 HeldTold l (Attaching s) = AttachingTold l s
@@ -158,6 +110,11 @@ HeldTold l (Declining s) = DecliningTold l s
 HeldTold l (Streaming s) = StreamingTold l s
 HeldTold l (Closing s) = ClosingTold l s
 HeldTold l (Leaving s) = LeavingTold l s
+HeldTold l (Beginning s) = BeginningTold l s
+HeldTold l (Denying s) = DenyingTold l s
+HeldTold l (Waiting s) = WaitingTold l s
+HeldTold l (Answering s) = AnsweringTold l s
+HeldTold l (Departing s) = DepartingTold l s
 
 -- how many moves that go on may follow, at the most
 abbrev pub held_rank : Held → ℕ
@@ -166,6 +123,11 @@ held_rank (Declining s) = 1
 held_rank (Streaming s) = 2
 held_rank (Closing s) = 1
 held_rank (Leaving s) = 1
+held_rank (Beginning s) = 3
+held_rank (Denying s) = 1
+held_rank (Waiting s) = 2
+held_rank (Answering s) = 1
+held_rank (Departing s) = 1
 
 -- bytes wait for the client, and its link took no more
 pub record Unsent (v w : LiveView) : Type 0 where
@@ -192,6 +154,11 @@ HeldPends v w (Declining s) = Unsent v w
 HeldPends v w (Streaming s) = StreamWaited v w s.stream.hold.number
 HeldPends v w (Closing s) = Unsent v w
 HeldPends v w (Leaving s) = Busied v.seat w.seat
+HeldPends v w (Beginning s) = Busied v.seat w.seat
+HeldPends v w (Denying s) = Unsent v w
+HeldPends v w (Waiting s) = StreamWaited v w s.wait.hold.number
+HeldPends v w (Answering s) = Unsent v w
+HeldPends v w (Departing s) = Busied v.seat w.seat
 
 -- a Detach is made only at the end, where the client is gone or memory is wanting
 abbrev pub EntriesAtEnd : SessionEnd → SeatView → Type 0
@@ -200,10 +167,6 @@ EntriesAtEnd (Cut cause) s = EntriesRow s
 EntriesAtEnd ClientGone s = EntriesRow s ⊎ ((hold : ℕ) × DetachedRow s hold)
 EntriesAtEnd Worn s = EntriesRow s
 EntriesAtEnd NoMemory s = EntriesRow s ⊎ ((hold : ℕ) × DetachedRow s hold)
-
-abbrev pub end_of : Parting → SessionEnd
-end_of Gone = ClientGone
-end_of Wanting = NoMemory
 
 -- a hold was let go of which no end was told, with all that was taken of it sent or waiting, or a beginning where memory was wanting
 pub record LeftWhole (l : LiveView) (g : Grant) (hold : KeptView) : Type 0 where
@@ -224,40 +187,70 @@ LeftAs Gone l g hold = LeftWhole l g hold
 LeftAs Wanting l g hold = LeftInPart l g hold
 
 -- an end of a hold was told, and memory was wanting for what the last Take gave
-pub record IsUnput (l : LiveView) (g : Grant) (hold : KeptView) (cause : EndCause) : Type 0 where
-  pub attached : HasAttached l g
+pub record IsUnput (l : LiveView) (turns : List Turn) (g : Grant) (hold : KeptView) (cause : EndCause) : Type 0 where
+  pub attached : HasAttached l turns (AsksFor g)
   pub own : HasNumber l hold
   pub stopped : Stopped (stream_of g hold) l.wire l.seat (Some cause)
 
 -- why a session ends so: no hold was made, and its refusal was sent, or the client is gone, or memory is wanting; nothing was attached,
 -- for want of memory or since the hub serves no more; an end of the hold was told, and all was sent, or the client is gone, or memory was
 -- wanting for what the last Take gave; the hub serves no more, and the hold stays; or the hold was let go
-pub data HeldEnds (l : LiveView) (g : Grant) : SessionEnd → Why → Type 0 where
-  full_sent : IsDeclined l g → BytesRow l.wire (exactly full_text) → l.wire.rest ≡ [] → HeldEnds l g (WasSent 503) why.Full
-  full_gone : IsDeclined l g → BytesRow l.wire (exactly full_text) → HasFailed l.wire → HeldEnds l g ClientGone why.Full
-  full_wanting : IsDeclined l g → BytesRow l.wire (exactly []) → HeldEnds l g NoMemory why.Full
-  unattached_wanting : IsUnattached l → HeldEnds l g NoMemory why.Nothing
-  unattached_worn : IsUnattached l → IsWorn l.seat → HeldEnds l g Worn why.Nothing
-  told_sent : (hold : KeptView) (cause : EndCause) → IsClosed l g hold cause → l.wire.rest ≡ [] → HeldEnds l g (stream_end g.code cause) why.Nothing
-  told_gone : (hold : KeptView) (cause : EndCause) → IsClosed l g hold cause → HasFailed l.wire → HeldEnds l g ClientGone why.Nothing
-  told_wanting : (hold : KeptView) (cause : EndCause) → IsUnput l g hold cause → HeldEnds l g NoMemory why.Nothing
-  kept_worn : (hold : KeptView) → HasAttached l g → Streams (stream_of g hold) l.wire l.seat → IsWorn l.seat → HeldEnds l g Worn why.Nothing
-  leaving_worn : (hold : KeptView) (parting : Parting) → HasAttached l g → LeavesAs parting l (stream_of g hold) → IsWorn l.seat → HeldEnds l g Worn why.Nothing
-  let_go : (hold : KeptView) (parting : Parting) → HasAttached l g → DetachedRow l.seat hold.number → LeftAs parting l g hold → HeldEnds l g (end_of parting) why.Nothing
+pub data HeldEnds (l : LiveView) (turns : List Turn) (g : Grant) : SessionEnd → Why → Type 0 where
+  full_sent : IsDeclined l turns (AsksFor g) → BytesRow l.wire (exactly full_text) → l.wire.rest ≡ [] → HeldEnds l turns g (WasSent 503) why.Full
+  full_gone : IsDeclined l turns (AsksFor g) → BytesRow l.wire (exactly full_text) → HasFailed l.wire → HeldEnds l turns g ClientGone why.Full
+  full_wanting : IsDeclined l turns (AsksFor g) → BytesRow l.wire (exactly []) → HeldEnds l turns g NoMemory why.Full
+  unattached_wanting : IsUnattached l turns → HeldEnds l turns g NoMemory why.Nothing
+  unattached_worn : IsUnattached l turns → IsWorn l.seat → HeldEnds l turns g Worn why.Nothing
+  told_sent : (hold : KeptView) (cause : EndCause) → IsClosed l turns g hold cause → l.wire.rest ≡ [] → HeldEnds l turns g (stream_end g.code cause) why.Nothing
+  told_gone : (hold : KeptView) (cause : EndCause) → IsClosed l turns g hold cause → HasFailed l.wire → HeldEnds l turns g ClientGone why.Nothing
+  told_wanting : (hold : KeptView) (cause : EndCause) → IsUnput l turns g hold cause → HeldEnds l turns g NoMemory why.Nothing
+  kept_worn : (hold : KeptView) → HasAttached l turns (AsksFor g) → Streams (stream_of g hold) l.wire l.seat → IsWorn l.seat → HeldEnds l turns g Worn why.Nothing
+  leaving_worn : (hold : KeptView) (parting : Parting) → HasAttached l turns (AsksFor g) → LeavesAs parting l (stream_of g hold) → IsWorn l.seat → HeldEnds l turns g Worn why.Nothing
+  let_go : (hold : KeptView) (parting : Parting) → HasAttached l turns (AsksFor g) → DetachedRow l.seat hold.number → LeftAs parting l g hold → HeldEnds l turns g (end_of parting) why.Nothing
+
+-- the answer asked for a stream, or for a long poll
+pub record StreamFinishes (l : LiveView) (ended : Ended) : Type 0 where
+  pub grant : Grant
+  pub rows : Granting l grant
+  pub says : HeldEnds l rows.heard.turns grant ended.end ended.why
+
+pub record PollFinishes (l : LiveView) (ended : Ended) : Type 0 where
+  pub poll : Poll
+  pub rows : Polling l poll
+  pub says : PollEnds l rows.heard.turns poll ended.end ended.why
 
 -- the rows at the end: each hold of the session's was reported, and none is kept unless the hub serves no more
 pub record HeldFinishes (l : LiveView) (ended : Ended) : Type 0 where
-  pub grant : Grant
-  pub rows : Granting l grant
+  pub seat : SeatRow l.seat
   pub entries : EntriesAtEnd ended.end l.seat
   pub reported : l.reports.items ≡ reports_of (holds_of l.seat)
   pub released : ended.end ≢ Worn → All IsReleased (holds_of l.seat)
-  pub says : HeldEnds l grant ended.end ended.why
+  pub by : StreamFinishes l ended ⊎ PollFinishes l ended
+
+-- a hold that is attached isn't reported yet
+abbrev pub GoesReported : LiveView → LiveView → Held → Type 0
+GoesReported v w (Attaching s) = ⊤
+GoesReported v w (Declining s) = ⊤
+GoesReported v w (Streaming s) = ⊤
+GoesReported v w (Closing s) = ⊤
+GoesReported v w (Leaving s) = ⊤
+GoesReported v w (Beginning s) = ⊥
+GoesReported v w (Denying s) = ⊤
+GoesReported v w (Waiting s) = w.reports.items ≡ v.reports.items
+GoesReported v w (Answering s) = ⊤
+GoesReported v w (Departing s) = ⊤
+
+-- the origin is asked again, at most 8 times, and the hold that has ended is reported
+pub record AsksAgain (v w : LiveView) (s : AskingStage) : Type 0 where
+  pub told : Told w (Asking s)
+  pub count : length w.reports.items ≡ length v.reports.items + 1
+  pub few : length v.reports.items < most_repeats
 
 -- where a move leads
 abbrev pub HeldLeadsTo : LiveView → LiveView → ℕ → HeldNext → Type 0
-HeldLeadsTo v w n (Go stage) = HeldTold w stage × (held_rank stage < n)
+HeldLeadsTo v w n (Go stage) = HeldTold w stage × (held_rank stage < n) × GoesReported v w stage
 HeldLeadsTo v w n (Wait stage) = HeldTold w stage × HeldPends v w stage
+HeldLeadsTo v w n (Again stage) = AsksAgain v w stage
 HeldLeadsTo v w n (End ended) = HeldFinishes w ended
 
 pub record HeldLeads (v w : LiveView) (n : ℕ) (next : HeldNext) : Type 0 where
@@ -278,14 +271,14 @@ pub record IsAttachedAt (l : LiveView) (g : Grant) (head : List ℕ) (hold : Kep
 -- no hold was made, and nothing was said yet
 pub record IsDeclinedAt (l : LiveView) (g : Grant) : Type 0 where
   pub rows : Granting l g
-  pub is : IsDeclined l g
+  pub is : IsDeclined l rows.heard.turns (AsksFor g)
   pub served : IsServed l.seat
   pub bytes : BytesRow l.wire (exactly [])
 
 -- an end of the hold was told, and it isn't reported yet
 pub record HasClosed (l : LiveView) (s : StreamingStage) (cause : EndCause) : Type 0 where
   pub rows : Granting l s.grant
-  pub attached : HasAttached l s.grant
+  pub attached : HasAttached l rows.heard.turns (AsksFor s.grant)
   pub entries : EntriesRow l.seat
   pub holds : HoldsRow l.seat l.reports.items (over s.stream.hold (Some cause))
   pub room : 0 < l.reports.spare
@@ -301,7 +294,7 @@ pub record StopsWorn (l : LiveView) (s : StreamingStage) : Type 0 where
 
 pub record StopsTold (l : LiveView) (s : StreamingStage) (cause : EndCause) : Type 0 where
   pub rows : Granting l s.grant
-  pub attached : HasAttached l s.grant
+  pub attached : HasAttached l rows.heard.turns (AsksFor s.grant)
   pub entries : EntriesRow l.seat
   pub holds : HoldsRow l.seat l.reports.items (over s.stream.hold (Some cause))
   pub room : 0 < l.reports.spare
@@ -318,7 +311,7 @@ pub record HasStoppedAt (l : LiveView) (s : StreamingStage) (end_told : Option E
 -- the hold was let go, or the hub serves no more
 pub record HasDetached (l : LiveView) (s : LeavingStage) : Type 0 where
   pub rows : Granting l s.grant
-  pub attached : HasAttached l s.grant
+  pub attached : HasAttached l rows.heard.turns (AsksFor s.grant)
   pub detached : DetachedRow l.seat s.hold.number
   pub holds : HoldsRow l.seat l.reports.items (over s.hold None)
   pub room : 0 < l.reports.spare

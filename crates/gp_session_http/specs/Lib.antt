@@ -2,10 +2,14 @@ pub mod Routing
 pub mod Wishes
 pub mod Asking
 pub mod Passing
+pub mod Turns
+pub mod Posings
 pub mod Grants
 pub mod Givings
 pub mod Views
 pub mod Trace
+pub mod Heard
+pub mod LongPolls
 pub mod Holding
 pub mod Headlines
 pub mod Moves

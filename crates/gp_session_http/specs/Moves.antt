@@ -3,7 +3,6 @@ use Rattle.std.specs.Prelude.{◌≡◌, ◌≢◌, ℕ, ◌+◌, ◌<◌, ◌�
 use Rattle.std.specs.List.{flat_map}
 use Rattle.gp_plain.specs.declared.reply.EndCause.{EndCause}
 use Rattle.gp_plain.specs.declared.reply.EndCause.TheVariants as cause_of_end
-use Rattle.gp_outside.specs.Dials.{IsIdle}
 use Rattle.gp_hub.specs.declared.outcome.SessionEnd.{SessionEnd}
 use Rattle.gp_hub.specs.declared.outcome.SessionEnd.TheVariants.{Sent as WasSent, Cut, ClientGone, Worn, NoMemory}
 use Rattle.gp_hub.specs.declared.outcome.Why.{Why}
@@ -20,7 +19,7 @@ use Rattle.gp_intake.specs.Requests.{HeadedView, IsHeaded}
 use Rattle.gp_intake.specs.Bodies.{IsOpen}
 use Rattle.gp_plain.specs.declared.http.Address.{Address}
 use Rattle.gp_session.specs.Wires.{WireView, RequestRow, BytesRow, Shape, exactly, at_most}
-use Rattle.gp_session.specs.Lines.{Said, Last, idle, speaking, hung, LineRow}
+use Rattle.gp_session.specs.Lines.{Said, Last, idle, speaking, hung}
 use Rattle.gp_session.specs.Causes.{ReadWaited, WriteWaited, HasFailed, HasEnded}
 use Rattle.gp_session_http.specs.declared.cause.Cause.{Cause}
 use Rattle.gp_session_http.specs.declared.stage.Stage.{Stage}
@@ -42,8 +41,9 @@ use Rattle.gp_session_http.specs.Asking.{IsAskedFor, HasGatheredHead, FailsBy}
 use Rattle.gp_session_http.specs.Routing.{Charter, IsRefusedFor, IsServed, refusal_of, why_of}
 use Rattle.gp_session_http.specs.Passing.{ArePartsOf, asked_of, origin_head, has_no_body, IsPassedOn, passed_text, head_by}
 use Rattle.gp_session_http.specs.Views.{LiveView, Moved, SaysMore}
-use Rattle.gp_session_http.specs.Holding.{AttachingTold}
-use Rattle.gp_session_http.specs.Trace.{Serves, IsPassing, IsGathering, Asks, last_of, HasAim, IsAt, text_of, moment_of, IsUnasked, TimesRow, Stays, Told}
+use Rattle.gp_session_http.specs.Holding.{HeldTold}
+use Rattle.gp_session_http.specs.Turns.{Fresh, Past, PastOf}
+use Rattle.gp_session_http.specs.Trace.{Serves, asked_in, IsPassing, IsGathering, Asks, last_of, HasAim, IsAt, text_of, moment_of, IsUnasked, TimesRow, Stays, Told}
 
 -- how many moves that go on may follow, at the most
 abbrev pub rank : Stage → ℕ
@@ -184,7 +184,7 @@ pub record ToldAtEnd (end : SessionEnd) (l : LiveView) (stage : Stage) : Type 0 
   pub parts : List (List ℕ)
   pub cut : ArePartsOf parts given
   pub request : RequestRow l.wire (AsksAtEnd end l.charter stage)
-  pub talks : IsIdle l.line.start → LineRow l.line [] (hung_up (last_of stage given))
+  pub talks : PastOf l.line l.charter l.seat l.reports.items (asked_in stage) (hung_up (last_of stage given))
   pub aim : HasAim l.charter stage
   pub at : IsAtEnd end l stage given parts
   pub bytes : BytesRow l.wire (shape_at_end end (text_of stage parts))
@@ -257,7 +257,7 @@ end_by code cause_of_end.TimedOut = Cut cause_of_end.TimedOut
 abbrev pub LeadsTo : LiveView → LiveView → ℕ → Next → Type 0
 LeadsTo v w n (Go stage) = Told w stage × (rank stage < n)
 LeadsTo v w n (Wait stage) = Told w stage × Pends v w stage
-LeadsTo v w n (Hold stage) = AttachingTold w stage
+LeadsTo v w n (Hold stage) = HeldTold w stage
 LeadsTo v w n (End ended) = Finishes w ended
 
 pub record Leads (v w : LiveView) (n : ℕ) (next : Next) : Type 0 where
@@ -279,7 +279,7 @@ StepsTo v w chunked (step.Next next) = Leads v w 2 next
 -- nothing was asked or sent, and the bytes received are so
 pub record IsUnanswered (l : LiveView) (Is : List ℕ → Type 0) : Type 0 where
   pub request : RequestRow l.wire Is
-  pub talks : IsIdle l.line.start → LineRow l.line [] idle
+  pub talks : Fresh l.line l.seat l.reports.items
   pub bytes : BytesRow l.wire (exactly [])
   pub times : IsUnasked l.watch
   pub stays : Stays l
@@ -296,7 +296,7 @@ IsServedAt l w address = IsUnanswered l (IsServed l.charter.rules w address)
 -- the rows once the origin was asked, with the last exchange, and this text for the client
 pub record HasAsked (l : LiveView) (asked : Asked) (x : ExchangeView) (last : Last) (text : List ℕ) : Type 0 where
   pub request : RequestRow l.wire (Serves l.charter asked)
-  pub talks : IsIdle l.line.start → LineRow l.line [] last
+  pub talks : Past l.line l.charter l.seat l.reports.items asked last
   pub aim : IsAskedFor l.charter.signer asked x.asked
   pub bytes : BytesRow l.wire (exactly text)
   pub times : TimesRow l.watch (Some asked.moment)

@@ -19,7 +19,7 @@ use Rattle.gp_session_http.specs.declared.session.Phase.TheVariants.{Free, Held}
 use Rattle.gp_session_http.specs.declared.stage.Ended.{Ended}
 use Rattle.gp_session_http.specs.Views.{LiveView, Moved, Goes}
 use Rattle.gp_session_http.specs.Holding.{HeldTold, HeldPends, HeldFinishes}
-use Rattle.gp_session_http.specs.Headlines.{HasHeadline}
+use Rattle.gp_session_http.specs.Headlines.{HasHeadline, HasPollLine}
 use Rattle.gp_session_http.specs.Trace.{Told, new_live}
 use Rattle.gp_session_http.specs.Moves.{Finishes, Pends}
 
@@ -42,7 +42,7 @@ abbrev pub PhaseTold : LiveView → Phase → Type 0
 PhaseTold l (Free stage) = Told l stage
 PhaseTold l (Held stage) = HeldTold l stage
 
--- and those at its end: before the hub was asked for anything, or since an answer asked for a stream
+-- and those at its end: where no answer, or none since the last long poll, asked for a hold, or since one did
 abbrev pub PhaseFinishes : LiveView → Ended → Type 0
 PhaseFinishes l ended = Finishes l ended ⊎ HeldFinishes l ended
 
@@ -94,18 +94,26 @@ pub record Ends (v : LiveView) (o : Outcome) (devices : DevicesView) : Type 0 wh
   pub moved : Goes v l
   pub leaves : Leaves l o devices
   pub headline : HasHeadline l
+  pub polls : HasPollLine l
 
--- and of one after which it goes on
+-- and of one after which it goes on. It has no hold that isn't over; where none was reported yet, all moves of the poll were those of
+-- a session without one. In its last part the poll waits so
 pub record FreeWaits (v w : LiveView) (stage : Stage) : Type 0 where
-  pub moved : Moved v w
+  pub first : LiveView
+  pub moved : Goes v first
+  pub then_moved : Moved first w
+  pub plain : w.reports.items ≡ [] → Moved v w
   pub told : Told w stage
-  pub pends : Pends v w stage
+  pub pends : Pends first w stage
+  pub headline : HasHeadline w
+  pub polls : HasPollLine w
 
 pub record HeldWaits (v w : LiveView) (stage : HeldStage) : Type 0 where
   pub moved : Goes v w
   pub told : HeldTold w stage
   pub pends : HeldPends v w stage
   pub headline : HasHeadline w
+  pub polls : HasPollLine w
 
 abbrev pub WaitsIn : LiveView → LiveView → Phase → Type 0
 WaitsIn v w (Free stage) = FreeWaits v w stage

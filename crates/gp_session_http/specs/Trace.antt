@@ -1,16 +1,15 @@
 -- What a session says of its link, its dialer, its clock and its pass after every move, row by row. All is said since the session
 -- began.
-use Rattle.std.specs.Prelude.{◌≡◌, ℕ, ◌<◌, ◌≤◌, ◌⊎◌, true, false, List, [], ◌++◌, length, Option, Some, None, ⊤}
+use Rattle.std.specs.Prelude.{◌≡◌, ℕ, zero, suc, ◌<◌, ◌≤◌, ◌⊎◌, true, false, List, [], ◌++◌, length, Option, Some, None, ⊤}
 use Rattle.gp_plain.specs.declared.reply.EndCause.{EndCause}
 use Rattle.gp_plain.specs.declared.reply.EndCause.TheVariants.{Closed, Detached, Gap, Unrecovered, Overflow, Answered, Retry, TimedOut}
 use Rattle.gp_plain.specs.Roomy.{roomy}
 use Rattle.gp_outside.specs.Counts.{Rose}
 use Rattle.gp_outside.specs.Clocks.{ClockTells}
-use Rattle.gp_outside.specs.Dials.{DialTells, DialLater, IsIdle}
+use Rattle.gp_outside.specs.Dials.{DialTells, DialLater}
 use Rattle.gp_outside.specs.Links.{LinkTells, LinkLater}
 use Rattle.gp_answer.specs.declared.refusal.Refusal.TheVariants.{BadGateway}
 use Rattle.gp_hub.specs.Passes.{HubView}
-use Rattle.gp_hub.specs.Own.{mine}
 use Rattle.gp_exchange.specs.Views.{ExchangeView}
 use Rattle.gp_exchange.specs.Answers.{rank, head_of, IsOverBy}
 use Rattle.gp_exchange.specs.declared.answer.ExchangeFault.{ExchangeFault}
@@ -18,9 +17,9 @@ use Rattle.gp_exchange.specs.declared.answer.Last.TheVariants as last
 use Rattle.gp_intake.specs.Heads.{IsBegun}
 use Rattle.gp_intake.specs.Requests.{IsHeaded}
 use Rattle.gp_session.specs.Wires.{RequestRow, BytesRow, exactly, new_wire}
-use Rattle.gp_session.specs.Lines.{LineView, Last, idle, speaking, hung, LineRow, new_line}
+use Rattle.gp_session.specs.Lines.{LineView, Last, idle, speaking, hung, new_line}
 use Rattle.gp_session.specs.Watches.{WatchView, WatchRow, new_watch}
-use Rattle.gp_session.specs.Seats.{SeatRow, HasNoHolds, IsServed as IsHubServed, Made, new_seat}
+use Rattle.gp_session.specs.Seats.{SeatRow, IsServed as IsHubServed, new_seat}
 use Rattle.gp_session_http.specs.declared.asked.Asked.{Asked}
 use Rattle.gp_session_http.specs.declared.passed.Passed.{Passed}
 use Rattle.gp_session_http.specs.declared.gathering.Gathering.{Gathering as GatheringStage}
@@ -35,14 +34,27 @@ use Rattle.gp_session_http.specs.declared.grant.Wish.TheVariants.{Whole}
 use Rattle.gp_instruct_json.specs.Answers.{IsAnswer}
 use Rattle.gp_plain.specs.declared.http.Response.{Response as HttpResponse}
 use Rattle.gp_session_http.specs.Passing.{asked_of, origin_head, has_no_body, IsPassedOn, ArePartsOf, passed_text}
+use Rattle.gp_session_http.specs.Turns.{PastOf}
 use Rattle.gp_session_http.specs.Views.{LiveView}
 
 abbrev pub new_live : LinkTells → DialTells → ClockTells → HubView → Charter → LiveView
 new_live link dial clock pass charter = record { wire = new_wire link; line = new_line dial; watch = new_watch clock; seat = new_seat pass; charter = charter; reports = roomy [] 0 }
 
+-- of the bytes received a beginning is so, and the rest isn't used
+pub record BeginsWith (Is : List ℕ → Type 0) (received : List ℕ) : Type 0 where
+  pub used : List ℕ
+  pub unused : List ℕ
+  pub split : received ≡ used ++ unused
+  pub is : Is used
+
+-- a client may have sent more behind its request while a long poll waited
+abbrev pub HeardAs : ℕ → (List ℕ → Type 0) → List ℕ → Type 0
+HeardAs zero Is received = Is received
+HeardAs (suc n) Is received = BeginsWith Is received
+
 -- Row: the request. What the bytes received are.
 abbrev pub Serves : Charter → Asked → List ℕ → Type 0
-Serves c asked received = IsServed c.rules asked.request asked.address received
+Serves c asked received = HeardAs asked.repeats (IsServed c.rules asked.request asked.address) received
 
 abbrev pub Asks : Charter → Stage → List ℕ → Type 0
 Asks c (ReadingHead s) received = (received ≡ s.intake) × IsBegun received
@@ -55,7 +67,20 @@ Asks c (Failing s) received = Serves c s.asked.value received
 Asks c (Passing s) received = Serves c (asked_of s.passed) received
 Asks c (Finishing s) received = Serves c (asked_of s.passed) received
 
--- Row: the talks. The last exchange, with the content that it has given.
+-- what was asked of the origin
+abbrev pub asked_in : Stage → Option Asked
+asked_in (ReadingHead s) = None
+asked_in (ReadingBody s) = None
+asked_in (Refusing s) = None
+asked_in (Asking s) = Some s.asked
+asked_in (Gathering s) = Some s.asked
+asked_in (Giving s) = Some s.asked.value
+asked_in (Failing s) = Some s.asked.value
+asked_in (Passing s) = Some (asked_of s.passed)
+asked_in (Finishing s) = Some (asked_of s.passed)
+
+-- Rows: the talks, the entries, the attaches and the holds, behind the turns before. The last exchange, with the content that it has
+-- given.
 abbrev pub last_of : Stage → List ℕ → Last
 last_of (ReadingHead s) given = idle
 last_of (ReadingBody s) given = idle
@@ -169,11 +194,8 @@ abbrev pub TimesRow : WatchView → Option ℕ → Type 0
 TimesRow w None = IsUnasked w
 TimesRow w (Some now) = WasAsked w now
 
--- Rows: the entries, the holds, and what no move of a session changes. It makes no entry and has no hold.
+-- Row: what no move of a session changes.
 pub record Stays (l : LiveView) : Type 0 where
-  pub entries : Made l.seat []
-  pub holds : HasNoHolds l.seat
-  pub reports : l.reports.items ≡ []
   pub seat : SeatRow l.seat
   pub served : IsHubServed l.seat
   pub links : LinkLater l.wire.start l.wire.link
@@ -184,7 +206,7 @@ pub record Told (l : LiveView) (stage : Stage) : Type 0 where
   pub parts : List (List ℕ)
   pub cut : ArePartsOf parts given
   pub request : RequestRow l.wire (Asks l.charter stage)
-  pub talks : IsIdle l.line.start → LineRow l.line [] (last_of stage given)
+  pub talks : PastOf l.line l.charter l.seat l.reports.items (asked_in stage) (last_of stage given)
   pub aim : HasAim l.charter stage
   pub at : IsAt l.line stage given parts
   pub bytes : BytesRow l.wire (exactly (text_of stage parts))

@@ -20,14 +20,15 @@ pub record LiveView : Type 0 where
 abbrev pub SaysMore : WireView → WireView → List ℕ → Type 0
 SaysMore v w more = (text : List ℕ) → Sent v text → Sent w (text ++ more)
 
--- what every move keeps: how the session began, what it was made with, that no count fell, and that nothing that was said is
--- taken back
+-- what every move keeps that keeps no hold: how the session began, what it was made with, that no count fell, the reports, and that
+-- nothing that was said is taken back
 pub record Moved (v w : LiveView) : Type 0 where
   pub wire : MovedWire v.wire w.wire
   pub line : MovedLine v.line w.line
   pub watch : w.watch.start ≡ v.watch.start
   pub seat : MovedSeat v.seat w.seat
   pub charter : w.charter ≡ v.charter
+  pub reports : w.reports.items ≡ v.reports.items
   pub more : List ℕ
   pub says : SaysMore v.wire w.wire more
 

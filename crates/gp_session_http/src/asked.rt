@@ -1,15 +1,17 @@
 //! What is asked of an origin.
-ghost use Rattle.std.specs.Prelude.{◌≡◌, [], IfOk, IfSome, option_map};
+ghost use Rattle.std.specs.Prelude.{◌≡◌, IfOk, IfSome, option_map};
 ghost use Rattle.gp_body.specs.Plans.{plan_of_request};
 ghost use Rattle.gp_head.specs.Writable.{IsFieldValue};
 ghost use Rattle.gp_forward.specs.Alone.{IsForwarded};
 ghost use Rattle.gp_sig.specs.Tokens.{token_of};
-ghost use Rattle.gp_session_http.specs.Asking.{BeginsFor, IsAskable, body_sent, expiry, issuer, sig_at};
+ghost use Rattle.gp_session_http.specs.Asking.{AreValues, BeginsFor, IsAskable, asked_after, body_sent, expiry, issuer, last_text, lasts_of, sig_at};
 
 use gp_body::BodyPlan;
 use gp_exchange::{Exchange, forward, forward_law};
+use gp_instruct::write_last;
 use gp_intake::Whole;
 use gp_plain::{Address, Body, Request, Signer};
+use gp_session_wait::Last;
 use gp_sig::token;
 use std::alloc::{AllocError, Global};
 
@@ -19,6 +21,10 @@ pub(crate) struct Asked {
     pub(crate) request: Whole,
     pub(crate) address: Address,
     pub(crate) moment: u64,
+    /// How often the request was asked before, at most 8 times.
+    pub(crate) repeats: u8,
+    /// The last item that the client has, where the request is repeated.
+    pub(crate) last: Option<Last>,
 }
 
 /// The body that is forwarded, where the request was planned to have one.
@@ -71,16 +77,46 @@ fn bytes_of(body: &Option<Body>) -> Option<&[u8]>
     }
 }
 
+/// How the origin is told of the last item that the client has.
+fn last_text(alloc: Global, last: &Last) -> Result<Body, AllocError>
+    ensures is { IfOk result (λ text. text ≡ last_text last.now) }
+    ensures value { IfOk result IsFieldValue }
+{
+    forward_law();
+    let _channel = last.channel.bytes();
+    let _id = last.id.bytes();
+    write_last(alloc, &last.channel, &last.id)
+}
+
+/// The same where there may be none.
+fn lasts_of(alloc: Global, last: &Option<Last>) -> Result<Vec<Body>, AllocError>
+    ensures is { IfOk result (λ lasts. lasts.items ≡ lasts_of last.now) }
+    ensures values { IfOk result (λ lasts. AreValues lasts.items) }
+{
+    match last {
+        None => Ok(Vec::new(alloc)),
+        Some(last) => vec![in alloc; last_text(alloc, last)?],
+    }
+}
+
 impl Asked {
     /// The bytes of the request that goes to the origin.
     fn request_text(&self, alloc: Global, signer: &Signer) -> Result<Body, AllocError>
         requires { IsAskable self.now }
-        ensures { IfOk result (IsForwarded self.now.request.head (body_sent (plan_of_request self.now.request.head) self.now.request.body) self.now.address (sig_at signer.now self.now.moment) []) }
+        ensures { IfOk result (IsForwarded self.now.request.head (body_sent (plan_of_request self.now.request.head) self.now.request.body) self.now.address (sig_at signer.now self.now.moment) (lasts_of self.now.last)) }
     {
         let sig = sig_at(alloc, signer, self.moment)?;
+        let lasts = lasts_of(alloc, &self.last)?;
         let head = &self.request.head;
         let body = body_sent(head, &self.request.body);
-        forward(alloc, head, body, &self.address, bytes_of(&sig), &[])
+        forward(
+            alloc,
+            head,
+            body,
+            &self.address,
+            bytes_of(&sig),
+            lasts.as_slice(),
+        )
     }
 
     /// The exchange in which it is asked.
@@ -92,5 +128,31 @@ impl Asked {
         let to = self.address.copy(alloc)?;
         let method = self.request.head.method.copy(alloc)?;
         Ok(Exchange::new(alloc, to, text, method, u64::MAX))
+    }
+}
+
+/// The request again, at this moment, for a client that has this item last.
+pub(crate) fn asked_again(
+    again: Option<Asked>,
+    last: Last,
+    repeats: u8,
+    moment: u64,
+) -> Option<Asked>
+    ensures { result ≡ option_map (asked_after last repeats moment) again }
+{
+    match again {
+        None => None,
+        Some(asked) => {
+            let Asked {
+                request, address, ..
+            } = asked;
+            Some(Asked {
+                request,
+                address,
+                moment,
+                repeats,
+                last: Some(last),
+            })
+        }
     }
 }

@@ -9,7 +9,9 @@ ghost use Rattle.gp_session_http.specs.declared.stage.Stage.TheVariants as stage
 use crate::asked::Asked;
 use crate::asking::{Asking, why_failed};
 use crate::grant::{Wish, most_gathered, prepare, wish_of};
+use crate::held::Held;
 use crate::live::Live;
+use crate::poll::pose;
 use crate::stage::{Next, Stage, end_with};
 use gp_exchange::{Exchange, Progress};
 use gp_hub::{SessionEnd, Why};
@@ -187,9 +189,9 @@ impl Asking {
     {
         match wish_of(&answer) {
             Wish::Stream => self.hold(live, answer),
-            Wish::LongStream => self.fail(live, Why::Origin),
+            Wish::Poll => self.wait(live, answer),
+            Wish::LongStream | Wish::LongPoll => self.fail(live, Why::Origin),
             Wish::Whole => self.give(live, answer),
-            Wish::Other => self.fail(live, Why::Instruct),
         }
     }
 
@@ -206,12 +208,29 @@ impl Asking {
         match prepare(live.alloc, &self.asked, &self.exchange, answer) {
             Ok(attaching) => {
                 drop(self);
-                Next::Hold(attaching)
+                Next::Hold(Held::Attaching(attaching))
             }
             Err(_) => {
                 drop(self);
                 Next::End(end_with(SessionEnd::NoMemory))
             }
+        }
+    }
+
+    /// Goes on to attach the long poll that an answer asks for.
+    fn wait<'h, L: Link, D: Dial, C: Clock>(
+        self,
+        live: &mut Live<'h, L, D, C>,
+        answer: Answer,
+    ) -> Next
+        requires told { IsAnsweredWith live.old self answer }
+        requires wish { IsWish answer wish.Poll }
+        ensures leads { Leads live.old live.new 2 result }
+    {
+        let Asking { asked, exchange } = self;
+        match pose(live.alloc, asked, &exchange, answer) {
+            Ok(beginning) => Next::Hold(Held::Beginning(beginning)),
+            Err(_) => Next::End(end_with(SessionEnd::NoMemory)),
         }
     }
 }

@@ -16,7 +16,7 @@ use gp_session_hold::without_link;
 use std::alloc::{AllocError, Global};
 use std::snapshot::Snapshot;
 
-/// The most bytes of an opening.
+/// The most bytes of an opening, and of the response that a long poll has of its own.
 const MOST_OPENING: usize = 262_144;
 
 /// The most bytes of a body that is an instruction.
@@ -41,10 +41,12 @@ pub(crate) enum Wish {
     Stream,
     /// A stream, with too long an opening.
     LongStream,
+    /// A long poll, whose own response isn't too long.
+    Poll,
+    /// A long poll, with too long a response of its own.
+    LongPoll,
     /// No hold: the client gets the response as it is.
     Whole,
-    /// A long poll, which isn't served yet.
-    Other,
 }
 
 /// How many bytes of a body are gathered at the most.
@@ -58,7 +60,7 @@ pub(crate) fn most_gathered(head: &Response) -> usize
     }
 }
 
-/// Whether an answer asks for a stream.
+/// What an answer asks for.
 pub(crate) fn wish_of(answer: &Answer) -> Wish
     ensures { IsWish answer.now result }
 {
@@ -72,7 +74,13 @@ pub(crate) fn wish_of(answer: &Answer) -> Wish
                     Wish::LongStream
                 }
             }
-            Some(Mode::Response) => Wish::Other,
+            Some(Mode::Response) => {
+                if answer.body.len() <= MOST_OPENING {
+                    Wish::Poll
+                } else {
+                    Wish::LongPoll
+                }
+            }
             None => Wish::Whole,
         },
     }

@@ -1,6 +1,7 @@
 //! A session that lets its hold go.
 ghost use Rattle.std.specs.Prelude.{◌≡◌};
-ghost use Rattle.gp_session_http.specs.Holding.{HasLeft, HeldLeads, HeldTold, end_of};
+ghost use Rattle.gp_session_http.specs.Heard.{end_of};
+ghost use Rattle.gp_session_http.specs.Holding.{HasLeft, HeldLeads, HeldTold};
 ghost use Rattle.gp_session_http.specs.declared.held.Held.TheVariants as held;
 
 use crate::grant::Grant;
@@ -31,7 +32,7 @@ pub(crate) struct Leaving {
 
 impl Parting {
     /// How the session ends.
-    fn end(self) -> SessionEnd
+    pub(crate) fn end(self) -> SessionEnd
         ensures { result ≡ end_of self }
     {
         match self {

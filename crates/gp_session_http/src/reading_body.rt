@@ -60,6 +60,8 @@ fn ask<'h, L: Link, D: Dial, C: Clock>(
         request,
         address,
         moment,
+        repeats: 0,
+        last: None,
     };
     match asked.begin(live.alloc, live.signer) {
         Ok(exchange) => Next::Go(Stage::Asking(Asking { asked, exchange })),

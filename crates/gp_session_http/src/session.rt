@@ -2,9 +2,7 @@
 ghost use Rattle.std.specs.Prelude.{◌≡◌, MatchResult, option_map};
 ghost use Rattle.gp_hub.specs.Sessions.{HasPolled};
 ghost use Rattle.gp_session.specs.Seats.{IsFresh};
-ghost use Rattle.gp_session_http.specs.Trace.{Told};
-ghost use Rattle.gp_session_http.specs.Holding.{HeldTold};
-ghost use Rattle.gp_session_http.specs.Polls.{Ends, HasEnded, IsNew, Leaves, MayGive, PhaseFinishes, PollsTo, Waits, begun, new_session};
+ghost use Rattle.gp_session_http.specs.Polls.{Ends, HasEnded, IsNew, Leaves, MayGive, PhaseFinishes, PhaseTold, PollsTo, Waits, begun, new_session};
 
 use crate::finish::Finish;
 use crate::held::{Held, HeldNext};
@@ -21,12 +19,12 @@ use std::alloc::Global;
 use std::marker::Model;
 use std::mem;
 
-/// What a session expects: before it asked the hub for anything, or since its origin's answer asked for a stream.
+/// What a session expects: where it keeps no hold, or since its origin's answer asked for one.
 #[derive(Drop)]
 pub(crate) enum Phase {
-    /// No answer has asked for a hold.
+    /// No answer has asked for a hold, or none since the last long poll.
     Free(Stage),
-    /// An answer asked for a stream.
+    /// An answer asked for a hold.
     Held(Held),
 }
 
@@ -72,9 +70,10 @@ impl<L: Link, D: Dial, C: Clock> Devices<L, D, C> {
 }
 
 /// A session with a client of HTTP. It reads one request, asks the origin of the first route that it meets, and passes the
-/// response on, part by part; or, where the response asks for a stream, attaches a hold and streams what it gives. A request that no
-/// route meets is answered 404, one for a WebSocket 501, one whose origin gives no response that can be passed on 502, and one whose
-/// hold can't be made 503.
+/// response on, part by part; or, where the response asks for a hold, attaches it. A stream is sent what its hold gives. A long poll
+/// is sent one answer: that of the item that comes, or the origin's own at the deadline. Where items were missed the origin is asked
+/// again, at most 8 times. A request that no route meets is answered 404, one for a WebSocket 501, one whose origin gives no response
+/// that can be passed on 502, and one whose hold can't be made 503.
 #[derive(Drop)]
 pub struct HttpSession<'h, L: Link, D: Dial, C: Clock> {
     open: Option<Open<'h, L, D, C>>,
@@ -115,51 +114,40 @@ fn left<'h, L: Link, D: Dial, C: Clock>(live: Live<'h, L, D, C>, ended: Ended) -
     (outcome, devices)
 }
 
-/// Makes moves of a session whose origin's answer asked for a stream, until one waits, or ends the session.
-fn advance_held<'h, L: Link, D: Dial, C: Clock>(
+/// Makes moves, until one waits, or ends the session.
+fn advance<'h, L: Link, D: Dial, C: Clock>(
     live: Live<'h, L, D, C>,
-    stage: Held,
+    phase: Phase,
 ) -> Result<Open<'h, L, D, C>, Left<L, D, C>>
-    requires told { HeldTold live stage }
+    requires told { PhaseTold live phase }
     ensures { MatchResult result (Waits live.entry) (λ left. Ends live.entry left.0 left.1) }
 {
     let mut live = live;
-    let mut stage = stage;
+    let mut phase = phase;
     loop {
-        match stage.advance(&mut live) {
-            HeldNext::Go(next) => stage = next,
-            HeldNext::Wait(next) => {
-                return Ok(Open {
-                    live,
-                    phase: Phase::Held(next),
-                });
-            }
-            HeldNext::End(ended) => return Err(left(live, ended)),
-        }
-    }
-}
-
-/// Makes moves of a session of which no answer has asked for a hold, until one waits, or ends the session, or a hold is attached.
-fn advance_free<'h, L: Link, D: Dial, C: Clock>(
-    live: Live<'h, L, D, C>,
-    stage: Stage,
-) -> Result<Open<'h, L, D, C>, Left<L, D, C>>
-    requires told { Told live stage }
-    ensures { MatchResult result (Waits live.entry) (λ left. Ends live.entry left.0 left.1) }
-{
-    let mut live = live;
-    let mut stage = stage;
-    loop {
-        match stage.advance(&mut live) {
-            Next::Go(next) => stage = next,
-            Next::Wait(next) => {
-                return Ok(Open {
-                    live,
-                    phase: Phase::Free(next),
-                });
-            }
-            Next::Hold(attaching) => return advance_held(live, Held::Attaching(attaching)),
-            Next::End(ended) => return Err(left(live, ended)),
+        match phase {
+            Phase::Free(stage) => match stage.advance(&mut live) {
+                Next::Go(next) => phase = Phase::Free(next),
+                Next::Hold(next) => phase = Phase::Held(next),
+                Next::Wait(next) => {
+                    return Ok(Open {
+                        live,
+                        phase: Phase::Free(next),
+                    });
+                }
+                Next::End(ended) => return Err(left(live, ended)),
+            },
+            Phase::Held(stage) => match stage.advance(&mut live) {
+                HeldNext::Go(next) => phase = Phase::Held(next),
+                HeldNext::Again(next) => phase = Phase::Free(Stage::Asking(next)),
+                HeldNext::Wait(next) => {
+                    return Ok(Open {
+                        live,
+                        phase: Phase::Held(next),
+                    });
+                }
+                HeldNext::End(ended) => return Err(left(live, ended)),
+            },
         }
     }
 }
@@ -185,10 +173,7 @@ impl<'h, L: Link, D: Dial, C: Clock> Open<'h, L, D, C> {
     {
         let Open { mut live, phase } = self;
         live.watch.begin();
-        match phase {
-            Phase::Free(stage) => advance_free(live, stage),
-            Phase::Held(stage) => advance_held(live, stage),
-        }
+        advance(live, phase)
     }
 }
 

@@ -5,11 +5,11 @@ ghost use Rattle.gp_session_http.specs.Trace.{Told};
 ghost use Rattle.gp_session_http.specs.Moves.{Leads, rank};
 
 use crate::asking::Asking;
-use crate::attaching::Attaching;
 use crate::failing::Failing;
 use crate::finishing::Finishing;
 use crate::gathering::Gathering;
 use crate::giving::Giving;
+use crate::held::Held;
 use crate::live::Live;
 use crate::passing::Passing;
 use crate::reading_body::ReadingBody;
@@ -18,7 +18,7 @@ use crate::refusing::Refusing;
 use gp_hub::{SessionEnd, Why};
 use gp_outside::{Clock, Dial, Link};
 
-/// What a session expects that has asked the hub for nothing yet.
+/// What a session expects that keeps no hold.
 #[derive(Drop)]
 pub(crate) enum Stage {
     /// The rest of the request's head.
@@ -56,7 +56,7 @@ pub(crate) enum Next {
     /// To the next poll.
     Wait(Stage),
     /// On, to attach a hold.
-    Hold(Attaching),
+    Hold(Held),
     /// To the end.
     End(Ended),
 }

@@ -2,7 +2,7 @@
 ghost use Rattle.std.specs.Prelude.{◌≡◌};
 ghost use Rattle.gp_session_http.specs.Asking.{IsReadVerdict, IsVerdict, is_head};
 
-use gp_instruct::{InstructFault, Mode, read_headers};
+use gp_instruct::{InstructFault, read_headers};
 use gp_instruct_json::is_instruct;
 use gp_plain::Response;
 use std::alloc::Global;
@@ -12,7 +12,7 @@ use std::alloc::Global;
 pub(crate) enum Verdict {
     /// It is passed on, with this code in place of its own, where there is one.
     Pass(Option<u16>),
-    /// Its body is gathered: it opens a stream, or is an instruction itself.
+    /// Its body is gathered: it asks for a hold, or is an instruction itself.
     Gather,
     /// Its instruction is refused: 502.
     Refuse,
@@ -37,8 +37,7 @@ fn read_verdict(alloc: Global, head: &Response) -> Verdict
         Ok(None) => Verdict::Pass(None),
         Ok(Some(instruct)) => match instruct.mode {
             None => Verdict::Pass(instruct.status),
-            Some(Mode::Stream) => Verdict::Gather,
-            Some(Mode::Response) => Verdict::Refuse,
+            Some(_) => Verdict::Gather,
         },
         Err(InstructFault::NoMemory) => Verdict::NoMemory,
         Err(_) => Verdict::Refuse,

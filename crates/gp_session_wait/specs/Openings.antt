@@ -1,5 +1,5 @@
 -- How the hold of a long poll is attached.
-use Rattle.std.specs.Prelude.{ℕ, ◌≡◌, ◌≤◌, true, [], Some, is_some, ⊤}
+use Rattle.std.specs.Prelude.{ℕ, ◌≡◌, ◌≤◌, Bool, true, ◌&&◌, nat_lt, List, [], Option, Some, is_some, ⊤}
 use Rattle.gp_plain.specs.declared.event.Event.TheVariants.{Attach}
 use Rattle.gp_plain.specs.declared.event.HoldSpec.{HoldSpec}
 use Rattle.gp_plain.specs.declared.event.HoldSpec.TheVariants.{Response}
@@ -19,6 +19,10 @@ use Rattle.gp_session_wait.specs.declared.opening.Began.TheVariants as began
 -- what is attached at a moment: the deadline is so many seconds later, at most the last that 64 bits tell
 abbrev pub spec_at : OpeningView → ℕ → HoldSpec
 spec_at o now = Response o.channels o.prev (deadline now o.seconds) (is_again o.repeats)
+
+-- the request may be repeated: there is an item to tell of, and it was repeated fewer times than it may be
+abbrev pub may_repeat : Option (List ℕ) → ℕ → Bool
+may_repeat channel repeats = is_some channel && nat_lt repeats most_repeats
 
 -- it may be attached, and repeated
 pub record CanOpen (o : OpeningView) : Type 0 where

@@ -1,6 +1,9 @@
 //! A long poll whose hold isn't attached yet.
+ghost use Rattle.std.specs.Prelude.{◌≡◌};
+ghost use Rattle.gp_session_wait.specs.Openings.{may_repeat};
 
 use crate::answer::Answer;
+use crate::polling::MOST_REPEATS;
 use crate::wait::Wait;
 use gp_plain::{ItemId, Name, Names};
 use std::alloc::Global;
@@ -42,4 +45,13 @@ pub enum Began {
     Worn,
     /// Memory is wanting.
     NoMemory,
+}
+
+impl Opening {
+    /// Whether its end may ask for a repeat: it has a previous id, and the request was repeated fewer than 8 times.
+    pub fn may_repeat(&self) -> bool
+        ensures { result ≡ may_repeat self.now.channel self.now.repeats }
+    {
+        self.channel.is_some() && self.repeats < MOST_REPEATS
+    }
 }

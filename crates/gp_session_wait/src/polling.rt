@@ -14,7 +14,7 @@ use gp_session_hold::KeptHold;
 use std::alloc::Global;
 
 /// How often a request is repeated at most.
-const MOST_REPEATS: u8 = 8;
+pub(crate) const MOST_REPEATS: u8 = 8;
 
 /// Puts the answer of a hold that ended by this cause.
 fn answer_with<L: Link>(
