@@ -19,7 +19,7 @@ use Rattle.gp_session_http.specs.declared.session.Phase.TheVariants.{Free, Held}
 use Rattle.gp_session_http.specs.declared.stage.Ended.{Ended}
 use Rattle.gp_session_http.specs.Views.{LiveView, Moved, Goes}
 use Rattle.gp_session_http.specs.Holding.{HeldTold, HeldPends, HeldFinishes}
-use Rattle.gp_session_http.specs.Headlines.{HasHeadline, HasPollLine}
+use Rattle.gp_session_http.specs.Headlines.{HasHeadline}
 use Rattle.gp_session_http.specs.Trace.{Told, new_live}
 use Rattle.gp_session_http.specs.Moves.{Finishes, Pends}
 
@@ -94,7 +94,6 @@ pub record Ends (v : LiveView) (o : Outcome) (devices : DevicesView) : Type 0 wh
   pub moved : Goes v l
   pub leaves : Leaves l o devices
   pub headline : HasHeadline l
-  pub polls : HasPollLine l
 
 -- and of one after which it goes on. It has no hold that isn't over; where none was reported yet, all moves of the poll were those of
 -- a session without one. In its last part the poll waits so
@@ -106,14 +105,12 @@ pub record FreeWaits (v w : LiveView) (stage : Stage) : Type 0 where
   pub told : Told w stage
   pub pends : Pends first w stage
   pub headline : HasHeadline w
-  pub polls : HasPollLine w
 
 pub record HeldWaits (v w : LiveView) (stage : HeldStage) : Type 0 where
   pub moved : Goes v w
   pub told : HeldTold w stage
   pub pends : HeldPends v w stage
   pub headline : HasHeadline w
-  pub polls : HasPollLine w
 
 abbrev pub WaitsIn : LiveView → LiveView → Phase → Type 0
 WaitsIn v w (Free stage) = FreeWaits v w stage
