@@ -1,5 +1,5 @@
 -- What gathering the body of an answer does to the rows of a session.
-use Rattle.std.proofs.Common.{◌≡◌, ◌≢◌, ℕ, ◌+◌, ◌-◌, ◌<◌, ◌≤◌, Bool, true, false, List, [], ◌∷◌, ◌++◌, length, nat_lt, Option, Some, None, option_map, refl, sym, ap, ◌∙◌, subst, arith, append-nil, length-append, ◌⊎◌, inl, inr}
+use Rattle.std.proofs.Common.{◌≡◌, ◌≢◌, ℕ, zero, suc, ◌+◌, ◌-◌, ◌<◌, ◌≤◌, Bool, true, false, List, [], ◌∷◌, ◌++◌, length, nat_lt, Option, Some, None, option_map, refl, sym, ap, ◌∙◌, subst, arith, append-nil, length-append, ◌⊎◌, inl, inr}
 use Rattle.std.specs.Prelude.{if◌then◌else◌}
 use Rattle.std.proofs.lemmas.Bool.Decides.{nat_tests}
 use Rattle.gp_answer.specs.Framings.{streamed}
@@ -7,7 +7,7 @@ use Rattle.gp_plain.specs.Fit.{fits}
 use Rattle.gp_plain.specs.declared.event.Event.TheVariants.{Attach}
 use Rattle.gp_plain.specs.declared.event.HoldSpec.{HoldSpec}
 use Rattle.gp_plain.specs.declared.http.Response.{Response}
-use Rattle.gp_outside.specs.Dials.{DialTells, IsIdle}
+use Rattle.gp_outside.specs.Dials.{DialTells}
 use Rattle.gp_hub.specs.declared.outcome.SessionEnd.TheVariants as end
 use Rattle.gp_hub.specs.declared.outcome.Why.{Why}
 use Rattle.gp_hub.specs.declared.outcome.Why.TheVariants as why
@@ -26,7 +26,7 @@ use Rattle.gp_exchange.specs.declared.answer.ExchangeFault.{ExchangeFault}
 use Rattle.gp_exchange.specs.declared.answer.Last.{Last as ExchangeLast}
 use Rattle.gp_exchange.specs.declared.answer.Last.TheVariants as last
 use Rattle.gp_exchange.specs.declared.answer.Progress.TheVariants.{Fault, NotReady}
-use Rattle.gp_session.specs.Lines.{LineView, MovedLine, LineRow, speaking, hung}
+use Rattle.gp_session.specs.Lines.{Aim, LineView, MovedLine, LineRow, speaking, hung}
 use Rattle.gp_session.specs.Wires.{WireView}
 use Rattle.gp_session_hold.specs.Unlinked.{without_link}
 use Rattle.gp_session_http.specs.declared.asked.Asked.{Asked}
@@ -36,23 +36,30 @@ use Rattle.gp_session_http.specs.declared.gathering.Gathering.{Gathering as Gath
 use Rattle.gp_session_http.specs.declared.gathering.Gathered.{Gathered}
 use Rattle.gp_session_http.specs.declared.gathering.Gathered.TheVariants as gathered
 use Rattle.gp_session_http.specs.declared.giving.Giving.{Giving as GivingStage}
-use Rattle.gp_session_http.specs.declared.grant.Grant.{Grant}
-use Rattle.gp_session_http.specs.declared.grant.Wish.TheVariants.{Stream, LongStream, Whole, Other}
+use Rattle.gp_session_http.specs.declared.beginning.Beginning.{Beginning as BeginningStage}
+use Rattle.gp_session_http.specs.declared.held.Held.TheVariants.{Attaching, Beginning}
+use Rattle.gp_session_http.specs.declared.grant.Wish.TheVariants.{Stream, LongStream, Poll, LongPoll, Whole}
 use Rattle.gp_session_http.specs.declared.stage.Stage.TheVariants.{Gathering, Giving}
 use Rattle.gp_session_http.specs.declared.stage.Ended.{Ended}
 use Rattle.gp_session_http.specs.declared.stage.Next.TheVariants.{Go, Wait, Hold, End}
-use Rattle.gp_session_http.specs.Asking.{IsAskedFor, IsGathered, HasGatheredHead, FailsBy, why_failed}
-use Rattle.gp_session_http.specs.Grants.{hold_by, IsHoldOf, IsGrantOf, IsPrepared, IsGrant, AsksFor, stream_head, stream_head_by}
+use Rattle.gp_routes.specs.declared.route.Rule.{Rule}
+use Rattle.gp_session_wait.specs.Openings.{may_repeat}
+use Rattle.gp_session_wait.specs.Waits.{most_repeats}
+use Rattle.gp_session_http.specs.Asking.{IsGathered, HasGatheredHead, FailsBy, why_failed}
+use Rattle.gp_session_http.specs.Grants.{hold_by, IsHoldOf, IsPrepared, stream_head_by}
+use Rattle.gp_session_http.specs.Heard.{Heard, IsUnattached}
+use Rattle.gp_session_http.specs.Posings.{IsCountedIn, IsOpeningOf, IsPosed, kept_for}
+use Rattle.gp_session_http.specs.Routing.{Charter, IsServed}
+use Rattle.gp_session_http.specs.Turns.{Turn, Behind, first, again, reports_before}
 use Rattle.gp_session_http.specs.Givings.{code_given, given_text}
-use Rattle.gp_session_http.specs.Holding.{AttachingTold, Granting}
 use Rattle.gp_session_http.specs.Moves.{waits, Leads, HasAsked, said, HasHeadOf, IsAnsweredAt, IsFailedAt, HasFailedAt, HasCome, HasComeAll, IsAnsweredWith, GathersOn, GathersTo}
 use Rattle.gp_session_http.specs.Passing.{ArePartsOf, code_by, in_chunks}
-use Rattle.gp_session_http.specs.Trace.{Serves, IsGathering, Told}
+use Rattle.gp_session_http.specs.Trace.{BeginsWith, HeardAs, IsGathering, Told}
 use Rattle.gp_session_http.specs.Views.{LiveView, Moved}
 use Rattle.gp_session_http.specs.Wishes.{most_gathered, AsksStream, IsWish, status_of}
 use Rattle.gp_session_http.proofs.Rows.{with_wire, with_line, moved_by_put, moved_unput, moved_line, moved_same, moved_again, no_parts, leads_from}
 use Rattle.gp_session_http.proofs.Hearing.{none_waits}
-use Rattle.gp_session_http.proofs.Answering.{polled, put_on, put_none, over_hung, over_rank, faulted}
+use Rattle.gp_session_http.proofs.Talking.{polled, put_on, put_none, over_hung, over_rank, faulted}
 use Rattle.gp_session_http.proofs.Sending.{more_parts, still_reads}
 use Rattle.gp_session_http.proofs.Granting.{unlinked_fits}
 
@@ -118,22 +125,22 @@ module _ (v : LiveView) (l : LineView) (s : GatheringStage) (told : Told v (Gath
   at_again : rank y.place ≡ 4 → IsGathering after_gather s.content
   at_again four = record { reading = four; has = has_head; content = refl; short = gathering_short v s told }
 
-  came : (part : List ℕ) → (LineRow v.line [] (speaking (said s.exchange s.content)) → LineRow l [] (speaking (said y (s.content ++ part)))) → HasAsked (with_line v l) s.asked y (speaking (said y (s.content ++ part))) []
+  came : (part : List ℕ) → ((aims : List Aim) → LineRow v.line aims (speaking (said s.exchange s.content)) → LineRow l aims (speaking (said y (s.content ++ part)))) → HasAsked (with_line v l) s.asked y (speaking (said y (s.content ++ part))) []
   came part row = polled v l s.asked s.exchange y (speaking (said s.exchange s.content)) (speaking (said y (s.content ++ part))) [] moved same row (gathering_rows v s told)
 
-  none_came : (LineRow v.line [] (speaking (said s.exchange s.content)) → LineRow l [] (speaking (said y (s.content ++ [])))) → HasAsked (with_line v l) s.asked y (speaking (said y s.content)) []
+  none_came : ((aims : List Aim) → LineRow v.line aims (speaking (said s.exchange s.content)) → LineRow l aims (speaking (said y (s.content ++ [])))) → HasAsked (with_line v l) s.asked y (speaking (said y s.content)) []
   none_came row = subst (λ (g : List ℕ). HasAsked (with_line v l) s.asked y (speaking (said y g)) []) (append-nil s.content) (came [] row)
 
-  over_rows : (e : ExchangeLast) → IsOverBy e y.place → (LineRow v.line [] (speaking (said s.exchange s.content)) → LineRow l [] (speaking (said y (s.content ++ [])))) → HasAsked (with_line v l) s.asked y (hung (said y s.content)) []
+  over_rows : (e : ExchangeLast) → IsOverBy e y.place → ((aims : List Aim) → LineRow v.line aims (speaking (said s.exchange s.content)) → LineRow l aims (speaking (said y (s.content ++ [])))) → HasAsked (with_line v l) s.asked y (hung (said y s.content)) []
   over_rows e over row = over_hung (with_line v l) s.asked y s.content [] (over_rank e y.place over) (none_came row)
 
-  pub gather_part : (part : List ℕ) → 0 < length part → rank y.place ≡ 4 → (LineRow v.line [] (speaking (said s.exchange s.content)) → LineRow l [] (speaking (said y (s.content ++ part)))) → HasCome (with_line v l) after_gather part
+  pub gather_part : (part : List ℕ) → 0 < length part → rank y.place ≡ 4 → ((aims : List Aim) → LineRow v.line aims (speaking (said s.exchange s.content)) → LineRow l aims (speaking (said y (s.content ++ part)))) → HasCome (with_line v l) after_gather part
   gather_part part some four row = record { parts = told.parts; cut = gathering_cut v s told; some = some; rows = came part row; at = at_again four }
 
-  pub gather_all : IsOverBy last.End y.place → (LineRow v.line [] (speaking (said s.exchange s.content)) → LineRow l [] (speaking (said y (s.content ++ [])))) → HasComeAll (with_line v l) after_gather
+  pub gather_all : IsOverBy last.End y.place → ((aims : List Aim) → LineRow v.line aims (speaking (said s.exchange s.content)) → LineRow l aims (speaking (said y (s.content ++ [])))) → HasComeAll (with_line v l) after_gather
   gather_all over row = record { parts = told.parts; cut = gathering_cut v s told; rows = over_rows last.End over row; over = over; has = has_head }
 
-  pub gather_fault : (f : ExchangeFault) (w : Why) → w ≡ why_failed f → Gives s.exchange.place y.place v.line.dial l.dial (Fault f) → (LineRow v.line [] (speaking (said s.exchange s.content)) → LineRow l [] (speaking (said y (s.content ++ []))))
+  pub gather_fault : (f : ExchangeFault) (w : Why) → w ≡ why_failed f → Gives s.exchange.place y.place v.line.dial l.dial (Fault f) → ((aims : List Aim) → LineRow v.line aims (speaking (said s.exchange s.content)) → LineRow l aims (speaking (said y (s.content ++ []))))
       → HasFailedAt (with_line v l) after_gather w
   gather_fault f w is g row = record {
     given = s.content;
@@ -144,7 +151,7 @@ module _ (v : LiveView) (l : LineView) (s : GatheringStage) (told : Told v (Gath
         (faulted v.line l s.asked.request.head.method s.exchange y f s.content (omega (arith, told.at.reading)) (inr (s.head, has_head)) moved told.stays.dials.faults g);
   }
 
-  pub gather_waits : Gives s.exchange.place y.place v.line.dial l.dial NotReady → (LineRow v.line [] (speaking (said s.exchange s.content)) → LineRow l [] (speaking (said y (s.content ++ [])))) → Leads v (with_line v l) 2 (Wait (Gathering after_gather))
+  pub gather_waits : Gives s.exchange.place y.place v.line.dial l.dial NotReady → ((aims : List Aim) → LineRow v.line aims (speaking (said s.exchange s.content)) → LineRow l aims (speaking (said y (s.content ++ [])))) → Leads v (with_line v l) 2 (Wait (Gathering after_gather))
   gather_waits g row = record {
     moved = moved_line v l moved;
     to = (
@@ -153,7 +160,7 @@ module _ (v : LiveView) (l : LineView) (s : GatheringStage) (told : Told v (Gath
     );
   }
 
-  pub gather_wants : IsOverBy last.NoMemory y.place → (LineRow v.line [] (speaking (said s.exchange s.content)) → LineRow l [] (speaking (said y (s.content ++ [])))) → (ended : Ended) → ended ≡ record { end = end.NoMemory; why = why.Nothing }
+  pub gather_wants : IsOverBy last.NoMemory y.place → ((aims : List Aim) → LineRow v.line aims (speaking (said s.exchange s.content)) → LineRow l aims (speaking (said y (s.content ++ [])))) → (ended : Ended) → ended ≡ record { end = end.NoMemory; why = why.Nothing }
       → Leads v (with_line v l) 2 (End ended)
   gather_wants over row ended is = gathering_lost (with_line v l) after_gather told.parts s.content 2 v (moved_line v l moved) (gathering_cut v s told) (over_rows last.NoMemory over row) ended is
 
@@ -162,12 +169,12 @@ module _ (v : LiveView) (s : GatheringStage) (part : List ℕ) (h : HasCome v s 
   cut_more : ArePartsOf (h.parts ++ part ∷ []) (s.content ++ part)
   cut_more = more_parts h.parts s.content part h.cut h.some
 
-  hung_rows : (l : LineView) → MovedLine v.line l → (LineRow v.line [] (speaking (said s.exchange (s.content ++ part))) → LineRow l [] (hung (said s.exchange (s.content ++ part))))
+  hung_rows : (l : LineView) → MovedLine v.line l → ((aims : List Aim) → LineRow v.line aims (speaking (said s.exchange (s.content ++ part))) → LineRow l aims (hung (said s.exchange (s.content ++ part))))
       → HasAsked (with_line v l) s.asked s.exchange (hung (said s.exchange (s.content ++ part))) []
   hung_rows l moved row = polled v l s.asked s.exchange s.exchange (speaking (said s.exchange (s.content ++ part))) (hung (said s.exchange (s.content ++ part))) [] moved refl row h.rows
 
   -- too much has
-  pub too_long : (l : LineView) → MovedLine v.line l → (LineRow v.line [] (speaking (said s.exchange (s.content ++ part))) → LineRow l [] (hung (said s.exchange (s.content ++ part)))) → most_gathered s.head - length s.content < length part
+  pub too_long : (l : LineView) → MovedLine v.line l → ((aims : List Aim) → LineRow v.line aims (speaking (said s.exchange (s.content ++ part))) → LineRow l aims (hung (said s.exchange (s.content ++ part)))) → most_gathered s.head - length s.content < length part
       → HasFailedAt (with_line v l) s why.Origin
   too_long l moved row long = record {
     given = s.content ++ part;
@@ -187,7 +194,7 @@ module _ (v : LiveView) (s : GatheringStage) (part : List ℕ) (h : HasCome v s 
     more = let count : length (s.content ++ part) ≡ length s.content + length part = length-append s.content part in let some = h.some in omega (arith, some, count);
   })
 
-  pub unkept : (l : LineView) → MovedLine v.line l → (LineRow v.line [] (speaking (said s.exchange (s.content ++ part))) → LineRow l [] (hung (said s.exchange (s.content ++ part))))
+  pub unkept : (l : LineView) → MovedLine v.line l → ((aims : List Aim) → LineRow v.line aims (speaking (said s.exchange (s.content ++ part))) → LineRow l aims (hung (said s.exchange (s.content ++ part))))
       → (ended : Ended) → ended ≡ record { end = end.NoMemory; why = why.Nothing } → Leads v (with_line v l) 2 (End ended)
   unkept l moved row ended is = gathering_lost (with_line v l) s (h.parts ++ part ∷ []) (s.content ++ part) 2 v (moved_line v l moved) cut_more (hung_rows l moved row) ended is
 
@@ -227,17 +234,14 @@ module _ (v : LiveView) (s : GatheringStage) (h : HasComeAll v s) where
   read_whole answer read = record { head = s.head; content = s.content; parts = h.parts; cut = h.cut; rows = h.rows; over = h.over; has = h.has; read = read }
 
   pub read_refused : IsAnswerRefused s.head s.content → IsFailedAt v as_asking why.Instruct
-  read_refused refused = record { given = s.content; parts = h.parts; cut = h.cut; rows = h.rows; fails = inr (record { head = s.head; has = h.has; over = h.over; refused = inl refused }) }
+  read_refused refused = record { given = s.content; parts = h.parts; cut = h.cut; rows = h.rows; fails = inr (record { head = s.head; has = h.has; over = h.over; refused = refused }) }
 
   pub read_lost : (ended : Ended) → ended ≡ record { end = end.NoMemory; why = why.Nothing } → Leads v v 2 (End ended)
   read_lost ended is = gathering_lost v s h.parts s.content 2 v (moved_same v) h.cut h.rows ended is
 
 module _ (v : LiveView) (s : AskingStage) (answer : Answer) (h : IsAnsweredWith v s answer) where
-  pub long_opening : IsWish answer LongStream → IsFailedAt v s why.Origin
+  pub long_opening : IsWish answer LongStream ⊎ IsWish answer LongPoll → IsFailedAt v s why.Origin
   long_opening wish = record { given = h.content; parts = h.parts; cut = h.cut; rows = h.rows; fails = inr (inr (record { head = h.head; has = h.has; over = h.over; answer = answer; read = h.read; wish = wish })) }
-
-  pub other_wish : IsWish answer Other → IsFailedAt v s why.Instruct
-  other_wish wish = record { given = h.content; parts = h.parts; cut = h.cut; rows = h.rows; fails = inr (record { head = h.head; has = h.has; over = h.over; refused = inr (answer, h.read, wish) }) }
 
   pub answer_lost : (ended : Ended) → ended ≡ record { end = end.NoMemory; why = why.Nothing } → Leads v v 2 (End ended)
   answer_lost ended is =
@@ -313,45 +317,90 @@ fits_by (Some instruct) body now held counted short is = by_spec (spec instruct 
         subst (λ (x : HoldSpec). fits (Attach x) ≡ true) same (unlinked_fits raw ∙ spec_law_holds instruct body now false raw (counted instruct refl) short e)
 
 -- what is asked for is attached
-pub holds_answer : (v : LiveView) (s : AskingStage) (answer : Answer) → IsAnsweredWith v s answer → IsWish answer Stream → (a : AttachingStage) → IsPrepared s.asked s.exchange answer a → Leads v v 2 (Hold a)
+
+pub counted_in : (head : Response) (content : List ℕ) (answer : Answer) → IsAnswer head content answer → IsCountedIn answer.instruct
+counted_in head content answer read = by_instruct answer.instruct refl
+  where
+    by_instruct : (o : Option Instruct) → answer.instruct ≡ o → IsCountedIn o
+    by_instruct None e = tt
+    by_instruct (Some instruct) e = counted_by (has_type head.fields) head content answer instruct read e
+
+heard_serves : (rules : List Rule) (asked : Asked) (n : ℕ) (received : List ℕ) → HeardAs n (IsServed rules asked.request asked.address) received → BeginsWith (IsServed rules asked.request asked.address) received
+heard_serves rules asked zero received h = record { used = received; unused = []; split = sym (append-nil received); is = h }
+heard_serves rules asked (suc n) received h = h
+
+heard_first : (v : LiveView) (s : AskingStage) (answer : Answer) → IsAnsweredWith v s answer → Heard v s.asked s.exchange answer
+heard_first v s answer h = record {
+  content = h.content;
+  turns = h.rows.talks.turns;
+  request = record { received = h.rows.request.received; since = h.rows.request.since; asks = heard_serves v.charter.rules s.asked s.asked.repeats h.rows.request.received h.rows.request.asks };
+  talks = h.rows.talks.talks;
+  aim = h.rows.aim;
+  behind = h.rows.talks.behind;
+  held = h.rows.talks.held;
+  told = ([], append-nil (reports_before h.rows.talks.turns) ∙ sym h.rows.talks.told);
+  answers = record { head = h.head; head_is = h.has.given; gathered = h.has.gathered; over = h.over; read = h.read };
+  calls = h.rows.times.calls;
+  times = h.rows.times.row;
+  seat = h.rows.stays.seat;
+  links = h.rows.stays.links;
+  dials = h.rows.stays.dials;
+}
+
+-- what contracts remember of an answer
+module _ (v : LiveView) (s : AskingStage) (answer : Answer) (h : IsAnsweredWith v s answer) (asked : Asked) (x : ExchangeView) (given : Answer) (asked_is : asked ≡ s.asked) (exchange_is : x ≡ s.exchange) (answer_is : given ≡ answer) where
+  as_given : (P : Asked → ExchangeView → Answer → Type 0) → P s.asked s.exchange answer → P asked x given
+  as_given P p = subst (λ (a : Answer). P asked x a) (sym answer_is) (subst (λ (y : ExchangeView). P asked y answer) (sym exchange_is) (subst (λ (a : Asked). P a s.exchange answer) (sym asked_is) p))
+
+  -- the rows, and what no hold was made for yet
+  heard_with : (h : Heard v asked x given) × IsUnattached v h.turns
+  heard_with = as_given (λ a y z. (h : Heard v a y z) × IsUnattached v h.turns)
+      (heard_first v s answer h, record { entries = h.rows.talks.entries; attaches = h.rows.talks.attaches; holds = h.rows.talks.holds; bytes = h.rows.bytes })
+
+pub holds_answer : (v : LiveView) (s : AskingStage) (answer : Answer) → IsAnsweredWith v s answer → IsWish answer Stream → (a : AttachingStage) → IsPrepared s.asked s.exchange answer a → Leads v v 2 (Hold (Attaching a))
 holds_answer v s answer h wish a p =
-    let rows = h.rows in
-    let asked = p.grant.asked_is in
-    let exchange = p.grant.exchange_is in
-    let is_answer = p.grant.answer_is in
-    let counted : (instruct : Instruct) → answer.instruct ≡ Some instruct → IsCounted instruct = λ instruct e. counted_by (has_type h.head.fields) h.head h.content answer instruct h.read e in
+    let g = a.grant in
+    let given : (P : Asked → ExchangeView → Answer → Type 0) → P s.asked s.exchange answer → P g.asked.value g.exchange.value g.answer.value = as_given v s answer h g.asked.value g.exchange.value g.answer.value p.grant.asked_is p.grant.exchange_is p.grant.answer_is in
+    let rows = heard_with v s answer h g.asked.value g.exchange.value g.answer.value p.grant.asked_is p.grant.exchange_is p.grant.answer_is in
     record {
       moved = moved_same v;
       to = record {
         rows = record {
-          content = h.content;
-          request = record {
-            received = rows.request.received;
-            since = rows.request.since;
-            asks = record { used = rows.request.received; unused = []; split = sym (append-nil rows.request.received); is = subst (λ (x : Asked). Serves v.charter x rows.request.received) (sym asked) rows.request.asks };
-          };
-          talks = λ alone. subst (λ (x : ExchangeView). LineRow v.line [] (hung (said x h.content))) (sym exchange) (rows.talks alone);
-          aim = subst (λ (x : ExchangeView). IsAskedFor v.charter.signer a.grant.asked.value x.asked) (sym exchange) (subst (λ (x : Asked). IsAskedFor v.charter.signer x s.exchange.asked) (sym asked) rows.aim);
+          heard = rows.0;
           is = record {
-            head = h.head;
-            head_is = ap (λ (x : ExchangeView). head_of x.place) exchange ∙ h.has.given;
-            gathered = subst (λ (x : Asked). IsGathered x.request.head.method h.head) (sym asked) h.has.gathered;
-            over = subst (λ (x : ExchangeView). IsOverBy last.End x.place) (sym exchange) h.over;
-            read = subst (IsAnswer h.head h.content) (sym is_answer) h.read;
-            wish = subst (λ (x : Answer). IsWish x Stream) (sym is_answer) wish;
-            code = subst (λ (x : Answer). a.grant.code ≡ code_by x.head (status_of x.instruct)) (sym is_answer) p.grant.code;
-            chunked = subst (λ (x : Asked). a.grant.chunked ≡ in_chunks (streamed x.request.head.version)) (sym asked) p.grant.chunked;
+            wish = given (λ x y z. IsWish z Stream) wish;
+            code = given (λ x y z. g.code ≡ code_by z.head (status_of z.instruct)) p.grant.code;
+            chunked = given (λ x y z. g.chunked ≡ in_chunks (streamed x.request.head.version)) p.grant.chunked;
           };
-          calls = rows.times.calls;
-          times = rows.times.row;
-          seat = rows.stays.seat;
-          links = rows.stays.links;
-          dials = rows.stays.dials;
         };
-        is = record { entries = rows.stays.entries; holds = rows.stays.holds; reports = rows.stays.reports; bytes = rows.bytes };
-        served = rows.stays.served;
-        spec_is = subst (λ (x : Answer). IsHoldOf x a.grant.asked.value.moment a.spec) (sym is_answer) (subst (λ (x : Asked). IsHoldOf answer x.moment a.spec) (sym asked) p.spec_is);
-        fit = fits_by answer.instruct answer.body s.asked.moment a.spec counted wish.1 p.spec_is;
-        head = p.head ∙ ap (λ (x : Answer). stream_head_by x s.asked.request.head.version) (sym is_answer) ∙ ap (λ (x : Asked). stream_head_by a.grant.answer.value x.request.head.version) (sym asked);
+        is = rows.1;
+        served = h.rows.stays.served;
+        spec_is = given (λ x y z. IsHoldOf z x.moment a.spec) p.spec_is;
+        fit = fits_by answer.instruct answer.body s.asked.moment a.spec (λ instruct e. counted_by (has_type h.head.fields) h.head h.content answer instruct h.read e) wish.1 p.spec_is;
+        head = given (λ x y z. a.head ≡ stream_head_by z x.request.head.version) p.head;
       };
     }
+
+pub polls_answer : (v : LiveView) (s : AskingStage) (answer : Answer) → IsAnsweredWith v s answer → IsWish answer Poll → (b : BeginningStage) → IsPosed s.asked s.exchange answer b → Leads v v 2 (Hold (Beginning b))
+polls_answer v s answer h wish b p =
+    let q = b.poll in
+    let given : (P : Asked → ExchangeView → Answer → Type 0) → P s.asked s.exchange answer → P q.asked.value q.exchange.value q.answer.value = as_given v s answer h q.asked.value q.exchange.value q.answer.value p.asked_is p.exchange_is p.answer_is in
+    let rows = heard_with v s answer h q.asked.value q.exchange.value q.answer.value p.asked_is p.exchange_is p.answer_is in
+    record {
+      moved = moved_same v;
+      to = record {
+        rows = record { heard = rows.0; wish = given (λ x y z. IsWish z Poll) wish };
+        is = rows.1;
+        served = h.rows.stays.served;
+        opens = given (λ x y z. IsOpeningOf z x.repeats b.opening) p.opens;
+        again = given (λ x y z. b.again ≡ kept_for x (may_repeat b.opening.channel b.opening.repeats)) p.again;
+      };
+    }
+
+few_behind : (c : Charter) (turns : List Turn) (asked : Asked) → Behind c turns asked → asked.repeats ≤ most_repeats
+few_behind c turns asked (first asked none item) = subst (λ (n : ℕ). n ≤ most_repeats) (sym none) (omega arith)
+few_behind c turns asked (again before turn asked behind is on) = on.few
+
+-- a request isn't repeated more often than it may be
+pub few_repeats : (v : LiveView) (s : AskingStage) (answer : Answer) → IsAnsweredWith v s answer → s.asked.repeats ≤ most_repeats
+few_repeats v s answer h = few_behind v.charter h.rows.talks.turns s.asked h.rows.talks.behind

@@ -1,35 +1,42 @@
 -- What each kind of move does to the rows of a session whose origin's answer asks for a stream.
-use Rattle.std.proofs.Common.{◌≡◌, ◌≢◌, ℕ, ◌<◌, ◌≤◌, ◌==◌, List, [], ◌∷◌, ◌++◌, map, filter, Option, Some, None, option_map, refl, sym, ap, ◌∙◌, subst, arith, append-nil, append_assoc, ◌⊎◌, inl, inr}
+use Rattle.std.proofs.Common.{◌≡◌, ◌≢◌, ℕ, ◌+◌, ◌<◌, ◌≤◌, true, List, [], ◌∷◌, ◌++◌, length, Option, Some, None, option_map, refl, sym, ap, ◌∙◌, subst, arith, append-nil, append_assoc, ◌⊎◌, inl, inr}
 use Rattle.std.specs.List.{All}
-use Rattle.std.proofs.lemmas.List.Elements.{All-nil}
+use Rattle.std.proofs.lemmas.List.Elements.{All-nil, All-push, All-head, All-tail}
+use mathlib.Core.List.{IsPrefix}
 use Rattle.gp_plain.specs.Fit.{fits}
-use Rattle.gp_plain.specs.Others.{Share, shares}
+use Rattle.gp_plain.specs.History.{held as held_in}
+use Rattle.gp_plain.specs.Others.{share_at}
 use Rattle.gp_plain.specs.Roomy.{Roomy}
 use Rattle.gp_plain.specs.declared.event.Entry.{Entry}
 use Rattle.gp_plain.specs.declared.event.Event.TheVariants.{Attach}
 use Rattle.gp_plain.specs.declared.event.HoldSpec.{HoldSpec}
 use Rattle.gp_plain.specs.declared.event.HoldSpec.TheVariants.{Stream as StreamSpec, Plain, Response, Socket}
 use Rattle.gp_plain.specs.declared.reply.HoldReport.{HoldReport}
+use Rattle.gp_plain.proofs.ShareLaws.{released_share_law_holds}
 use Rattle.gp_outside.specs.Counts.{Rose, grown}
 use Rattle.gp_outside.specs.Links.{LinkTells}
-use Rattle.gp_hub.specs.Own.{mine}
-use Rattle.gp_session.specs.Seats.{SeatView, MovedSeat, SeatRow, HasNoHolds, Made}
+use Rattle.gp_instruct_json.specs.declared.answer.Answer.{Answer}
+use Rattle.gp_exchange.specs.Views.{ExchangeView}
+use Rattle.gp_session.specs.Seats.{SeatView, MovedSeat, SeatRow}
 use Rattle.gp_session.specs.Watches.{WatchView, WatchRow, Uses, Asks as AsksClock}
-use Rattle.gp_session.specs.Wires.{WireView, MovedWire, Sent}
+use Rattle.gp_session.specs.Wires.{WireView, MovedWire}
 use Rattle.gp_session.proofs.Moving.{rose_from, later_since, moved_wire_same, moved_wire_again, moved_seat_same, moved_seat_again, busied_from, write_waited_from}
-use Rattle.gp_session_hold.specs.Rows.{EntriesRow, AttachRow, HoldsRow, LastHold, none, holds_of, reports_of, IsReleased}
+use Rattle.gp_session_hold.specs.Rows.{EntriesRow, AttachRow, HoldsRow, none, holds_of, reports_of, IsReleased}
 use Rattle.gp_session_hold.specs.Unlinked.{without_link}
-use Rattle.gp_session_hold.proofs.Rowing.{holds_none, entries_none, attaches_none}
+use Rattle.gp_session_wait.specs.Waits.{most_repeats}
 use Rattle.gp_session_http.specs.declared.asked.Asked.{Asked}
+use Rattle.gp_session_http.specs.declared.asking.Asking.{Asking as AskingStage}
 use Rattle.gp_session_http.specs.declared.grant.Grant.{Grant}
 use Rattle.gp_session_http.specs.declared.held.Held.{Held}
-use Rattle.gp_session_http.specs.declared.held.Held.TheVariants.{Attaching, Declining, Streaming, Closing, Leaving}
+use Rattle.gp_session_http.specs.declared.held.Held.TheVariants.{Attaching, Declining, Streaming, Closing, Leaving, Beginning, Denying, Waiting, Answering, Departing}
 use Rattle.gp_session_http.specs.declared.held.HeldNext.{HeldNext}
-use Rattle.gp_session_http.specs.declared.held.HeldNext.TheVariants.{Go, Wait, End}
-use Rattle.gp_session_http.specs.Routing.{Charter}
+use Rattle.gp_session_http.specs.declared.held.HeldNext.TheVariants.{Go, Wait, Again, End}
+use Rattle.gp_session_http.specs.Routing.{Charter, IsServed}
+use Rattle.gp_session_http.specs.Turns.{Turn, Behind, first, again, AreHeld, specs_before, reports_before}
 use Rattle.gp_session_http.specs.Views.{LiveView, Moved, Goes}
-use Rattle.gp_session_http.specs.Trace.{Serves}
-use Rattle.gp_session_http.specs.Holding.{BeginsWith, Granting, IsUnattached, HeldPends, HeldLeads, HeldLeadsTo}
+use Rattle.gp_session_http.specs.Trace.{BeginsWith}
+use Rattle.gp_session_http.specs.Heard.{Heard, IsUnattached}
+use Rattle.gp_session_http.specs.Holding.{Granting, HeldPends, GoesReported, AsksAgain, HeldLeads, HeldLeadsTo}
 use Rattle.gp_session_http.proofs.Rows.{line_same, line_again}
 
 abbrev pub with_held : LiveView → WireView → WatchView → SeatView → Roomy HoldReport → LiveView
@@ -73,14 +80,52 @@ held_pends_from u v w (Streaming s) m p = record {
 }
 held_pends_from u v w (Closing s) m p = record { some = p.some; waited = write_waited_from u.wire v.wire w.wire m.wire p.waited }
 held_pends_from u v w (Leaving s) m p = busied_from u.seat v.seat w.seat m.seat p
+held_pends_from u v w (Beginning s) m p = busied_from u.seat v.seat w.seat m.seat p
+held_pends_from u v w (Denying s) m p = record { some = p.some; waited = write_waited_from u.wire v.wire w.wire m.wire p.waited }
+held_pends_from u v w (Waiting s) m p = record {
+  wire = p.wire;
+  seat = p.seat;
+  moved_wire = moved_wire_again u.wire v.wire p.wire m.wire p.moved_wire;
+  moved_seat = moved_seat_again u.seat v.seat p.seat m.seat p.moved_seat;
+  now = p.now;
+  moment = p.moment;
+  last = p.last;
+  heard = p.heard;
+  received = p.received;
+  pends = p.pends;
+}
+held_pends_from u v w (Answering s) m p = record { some = p.some; waited = write_waited_from u.wire v.wire w.wire m.wire p.waited }
+held_pends_from u v w (Departing s) m p = busied_from u.seat v.seat w.seat m.seat p
 
-held_to_from : (u v w : LiveView) (k n : ℕ) (next : HeldNext) → Goes u v → k ≤ n → HeldLeadsTo v w k next → HeldLeadsTo u w n next
-held_to_from u v w k n (Go stage) m le l = (l.0, omega (arith, le, l.1))
-held_to_from u v w k n (Wait stage) m le l = (l.0, held_pends_from u v w stage m l.1)
-held_to_from u v w k n (End ended) m le l = l
+-- a move after one that changed no report
 
-pub held_from : (u v w : LiveView) (k n : ℕ) (next : HeldNext) → Goes u v → k ≤ n → HeldLeads v w k next → HeldLeads u w n next
-held_from u v w k n next m le l = record { moved = goes_again u v w m l.moved; to = held_to_from u v w k n next m le l.to }
+reported_from : (u v w : LiveView) (stage : Held) → v.reports.items ≡ u.reports.items → GoesReported v w stage → GoesReported u w stage
+reported_from u v w (Attaching s) same g = tt
+reported_from u v w (Declining s) same g = tt
+reported_from u v w (Streaming s) same g = tt
+reported_from u v w (Closing s) same g = tt
+reported_from u v w (Leaving s) same g = tt
+reported_from u v w (Beginning s) same g = absurd g
+reported_from u v w (Denying s) same g = tt
+reported_from u v w (Waiting s) same g = g ∙ same
+reported_from u v w (Answering s) same g = tt
+reported_from u v w (Departing s) same g = tt
+
+again_from : (u v w : LiveView) (s : AskingStage) → v.reports.items ≡ u.reports.items → AsksAgain v w s → AsksAgain u w s
+again_from u v w s same a = record {
+  told = a.told;
+  count = a.count ∙ ap (λ (rs : List HoldReport). length rs + 1) same;
+  few = subst (λ (rs : List HoldReport). length rs < most_repeats) same a.few;
+}
+
+held_to_from : (u v w : LiveView) (k n : ℕ) (next : HeldNext) → Goes u v → v.reports.items ≡ u.reports.items → k ≤ n → HeldLeadsTo v w k next → HeldLeadsTo u w n next
+held_to_from u v w k n (Go stage) m same le l = (l.0, omega (arith, le, l.1), reported_from u v w stage same l.2)
+held_to_from u v w k n (Wait stage) m same le l = (l.0, held_pends_from u v w stage m l.1)
+held_to_from u v w k n (Again stage) m same le l = again_from u v w stage same l
+held_to_from u v w k n (End ended) m same le l = l
+
+pub held_from : (u v w : LiveView) (k n : ℕ) (next : HeldNext) → Goes u v → v.reports.items ≡ u.reports.items → k ≤ n → HeldLeads v w k next → HeldLeads u w n next
+held_from u v w k n next m same le l = record { moved = goes_again u v w m l.moved; to = held_to_from u v w k n next m same le l.to }
 
 pub held_live : (v x w : LiveView) (n : ℕ) (next : HeldNext) → v ≡ x → HeldLeads v w n next → HeldLeads x w n next
 held_live v x w n next e l = subst (λ (y : LiveView). HeldLeads y w n next) e l
@@ -101,43 +146,70 @@ heard_twice (Some bytes) some more = ap Some (append_assoc bytes some more)
 more_unused : (Is : List ℕ → Type 0) (received heard : List ℕ) → BeginsWith Is received → BeginsWith Is (received ++ heard)
 more_unused Is received heard b = record { used = b.used; unused = b.unused ++ heard; split = ap (λ (xs : List ℕ). xs ++ heard) b.split ∙ append_assoc b.used b.unused heard; is = b.is }
 
-pub granting_on : (v : LiveView) (x : WireView) (u : WatchView) (t : SeatView) (r : Roomy HoldReport) (g : Grant) → Granting v g → MovedWire v.wire x → (heard : List ℕ) → x.link.received ≡ grown v.wire.link.received heard
-    → Rose u.start.calls u.clock.calls → WatchRow u → (SeatRow v.seat → SeatRow t) → Granting (with_held v x u t r) g
-granting_on v x u t r g h moved heard received calls times row = record {
-  content = h.content;
-  request = record {
-    received = h.request.received ++ heard;
-    since = received ∙ ap (λ told. grown told heard) h.request.since ∙ heard_twice v.wire.start.received h.request.received heard ∙ ap (λ (k : LinkTells). grown k.received (h.request.received ++ heard)) (sym moved.start);
-    asks = more_unused (Serves v.charter g.asked.value) h.request.received heard h.request.asks;
-  };
-  talks = h.talks;
-  aim = h.aim;
-  is = h.is;
-  calls = calls;
-  times = times;
-  seat = row h.seat;
-  links = later_since v.wire x h.links moved;
-  dials = h.dials;
-}
+-- the holds of turns stay as they are
+held_moved : (s t : SeatView) (c : Charter) (turns : List Turn) (asked : Asked) → MovedSeat s t → Behind c turns asked → AreHeld s turns → AreHeld t turns
+held_moved s t c turns asked moved behind held = all_moved turns (all_released c turns asked behind) held
+  where
+    all_released : (c : Charter) (turns : List Turn) (asked : Asked) → Behind c turns asked → All (λ (turn : Turn). turn.share.released ≡ true) turns
+    all_released c turns asked (first asked none item) = All-nil _
+    all_released c turns asked (again before turn asked behind is on) = All-push (λ (t : Turn). t.share.released ≡ true) before turn (all_released c before turn.asked behind) is.released
+
+    all_moved : (turns : List Turn) → All (λ (turn : Turn). turn.share.released ≡ true) turns → AreHeld s turns → AreHeld t turns
+    all_moved [] all h = tt
+    all_moved (turn ∷ turns) all h =
+        let released : turn.share.released ≡ true = All-head (λ (t : Turn). t.share.released ≡ true) turn turns all in
+        (
+          subst (λ (es : List Entry). share_at (held_in es) turn.number ≡ Some turn.share) moved.seen.1 (released_share_law_holds s.pass.seen moved.seen.0 turn.number turn.share h.0 released),
+          all_moved turns (All-tail (λ (t : Turn). t.share.released ≡ true) turn turns all) h.1,
+        )
+
+pub none_more : (rs : List HoldReport) → IsPrefix rs rs
+none_more rs = ([], append-nil rs)
+
+pub same_more : (rs qs : List HoldReport) → qs ≡ rs → IsPrefix rs qs
+same_more rs qs same = ([], append-nil rs ∙ sym same)
+
+module _ (v : LiveView) (x : WireView) (u : WatchView) (t : SeatView) (r : Roomy HoldReport) (asked : Asked) (y : ExchangeView) (answer : Answer) (h : Heard v asked y answer) where
+  pub heard_on : MovedWire v.wire x → (heard : List ℕ) → x.link.received ≡ grown v.wire.link.received heard → Rose u.start.calls u.clock.calls → WatchRow u → MovedSeat v.seat t → (SeatRow v.seat → SeatRow t) → IsPrefix v.reports.items r.items → Heard (with_held v x u t r) asked y answer
+  heard_on moved heard received calls times seat row more = record {
+    content = h.content;
+    turns = h.turns;
+    request = record {
+      received = h.request.received ++ heard;
+      since = received ∙ ap (λ told. grown told heard) h.request.since ∙ heard_twice v.wire.start.received h.request.received heard ∙ ap (λ (k : LinkTells). grown k.received (h.request.received ++ heard)) (sym moved.start);
+      asks = more_unused (IsServed v.charter.rules asked.request asked.address) h.request.received heard h.request.asks;
+    };
+    talks = h.talks;
+    aim = h.aim;
+    behind = h.behind;
+    held = held_moved v.seat t v.charter h.turns asked seat h.behind h.held;
+    told = (h.told.0 ++ more.0, sym (append_assoc (reports_before h.turns) h.told.0 more.0) ∙ ap (λ (rs : List HoldReport). rs ++ more.0) h.told.1 ∙ more.1);
+    answers = h.answers;
+    calls = calls;
+    times = times;
+    seat = row h.seat;
+    links = later_since v.wire x h.links moved;
+    dials = h.dials;
+  }
 
 -- the client's end alone moved
-pub granting_wire : (v : LiveView) (x : WireView) (r : Roomy HoldReport) (g : Grant) → Granting v g → MovedWire v.wire x → x.link.received ≡ v.wire.link.received → Granting (with_held v x v.watch v.seat r) g
-granting_wire v x r g h moved same = granting_on v x v.watch v.seat r g h moved [] (same ∙ heard_none v.wire.link.received) h.calls h.times (λ row. row)
+pub heard_wire : (v : LiveView) (x : WireView) (asked : Asked) (y : ExchangeView) (answer : Answer) → Heard v asked y answer → MovedWire v.wire x → x.link.received ≡ v.wire.link.received → Heard (with_held v x v.watch v.seat v.reports) asked y answer
+heard_wire v x asked y answer h moved same = heard_on v x v.watch v.seat v.reports asked y answer h moved [] (same ∙ heard_none v.wire.link.received) h.calls h.times (moved_seat_same v.seat) (λ row. row) (none_more v.reports.items)
 
 -- or the hub's end alone
-pub granting_seat : (v : LiveView) (t : SeatView) (r : Roomy HoldReport) (g : Grant) → Granting v g → (SeatRow v.seat → SeatRow t) → Granting (with_held v v.wire v.watch t r) g
-granting_seat v t r g h row = record {
-  content = h.content;
-  request = h.request;
-  talks = h.talks;
-  aim = h.aim;
-  is = h.is;
-  calls = h.calls;
-  times = h.times;
-  seat = row h.seat;
-  links = h.links;
-  dials = h.dials;
-}
+pub heard_seat : (v : LiveView) (t : SeatView) (r : Roomy HoldReport) (asked : Asked) (y : ExchangeView) (answer : Answer) → Heard v asked y answer → MovedSeat v.seat t → (SeatRow v.seat → SeatRow t) → IsPrefix v.reports.items r.items → Heard (with_held v v.wire v.watch t r) asked y answer
+heard_seat v t r asked y answer h seat row more = heard_on v v.wire v.watch t r asked y answer h (moved_wire_same v.wire) [] (heard_none v.wire.link.received) h.calls h.times seat row more
+
+pub granting_on : (v : LiveView) (x : WireView) (u : WatchView) (t : SeatView) (r : Roomy HoldReport) (g : Grant) → Granting v g → MovedWire v.wire x → (heard : List ℕ) → x.link.received ≡ grown v.wire.link.received heard
+    → Rose u.start.calls u.clock.calls → WatchRow u → MovedSeat v.seat t → (SeatRow v.seat → SeatRow t) → IsPrefix v.reports.items r.items → Granting (with_held v x u t r) g
+granting_on v x u t r g h moved heard received calls times seat row more =
+    record { heard = heard_on v x u t r g.asked.value g.exchange.value g.answer.value h.heard moved heard received calls times seat row more; is = h.is }
+
+pub granting_wire : (v : LiveView) (x : WireView) (g : Grant) → Granting v g → MovedWire v.wire x → x.link.received ≡ v.wire.link.received → Granting (with_held v x v.watch v.seat v.reports) g
+granting_wire v x g h moved same = record { heard = heard_wire v x g.asked.value g.exchange.value g.answer.value h.heard moved same; is = h.is }
+
+pub granting_seat : (v : LiveView) (t : SeatView) (r : Roomy HoldReport) (g : Grant) → Granting v g → MovedSeat v.seat t → (SeatRow v.seat → SeatRow t) → IsPrefix v.reports.items r.items → Granting (with_held v v.wire v.watch t r) g
+granting_seat v t r g h seat row more = record { heard = heard_seat v t r g.asked.value g.exchange.value g.answer.value h.heard seat row more; is = h.is }
 
 rose_again : (a b c : ℕ) → Rose a b → Rose b c → Rose a c
 rose_again a b c p q = omega (arith, p, q)
@@ -150,25 +222,10 @@ calls_on v u now uses calls = by_move uses.moved.moved
     by_move (inl same) = subst (λ (w : WatchView). Rose w.start.calls w.clock.calls) (sym same) calls
     by_move (inr asks) = subst (λ (n : ℕ). Rose n u.clock.calls) (ap (λ t. t.calls) (sym uses.moved.start)) (rose_again v.start.calls v.clock.calls u.clock.calls calls asks.calls)
 
--- a session that has made no entry
+-- a session that has made no entry for an answer
 
-made_same : (s t : SeatView) → t.pass.number ≡ s.pass.number → t.pass.seen ≡ s.pass.seen → Made s [] → Made t []
-made_same s t number seen made = ap (λ (n : ℕ). filter (λ (entry : Entry). entry.who == n) t.pass.seen) number ∙ ap (λ (es : List Entry). filter (λ (entry : Entry). entry.who == s.pass.number) es) seen ∙ made
-
-holdless_same : (s t : SeatView) → t.pass.number ≡ s.pass.number → t.pass.seen ≡ s.pass.seen → HasNoHolds s → HasNoHolds t
-holdless_same s t number seen holds = ap (λ (n : ℕ). shares n t.pass.seen) number ∙ ap (λ (es : List Entry). shares s.pass.number es) seen ∙ holds
-
-pub unattached_same : (v : LiveView) (t : SeatView) (r : Roomy HoldReport) → t.pass.number ≡ v.seat.pass.number → t.pass.seen ≡ v.seat.pass.seen → r.items ≡ v.reports.items → IsUnattached v → IsUnattached (with_held v v.wire v.watch t r)
-unattached_same v t r number seen items is = record { entries = made_same v.seat t number seen is.entries; holds = holdless_same v.seat t number seen is.holds; reports = items ∙ is.reports; bytes = is.bytes }
-
-pub unattached_entries : (l : LiveView) → IsUnattached l → EntriesRow l.seat
-unattached_entries l is = entries_none l.seat is.entries
-
-pub unattached_attaches : (l : LiveView) → IsUnattached l → AttachRow l.seat [] None
-unattached_attaches l is = attaches_none l.seat is.entries is.holds
-
-pub unattached_holds : (l : LiveView) → IsUnattached l → HoldsRow l.seat l.reports.items none
-unattached_holds l is = subst (λ (items : List HoldReport). HoldsRow l.seat items none) (sym is.reports) (holds_none l.seat is.holds)
+pub unattached_same : (v : LiveView) (t : SeatView) (r : Roomy HoldReport) (u : WatchView) (turns : List Turn) → EntriesRow t → AttachRow t (specs_before turns) None → HoldsRow t r.items none → IsUnattached v turns → IsUnattached (with_held v v.wire u t r) turns
+unattached_same v t r u turns entries attaches holds is = record { entries = entries; attaches = attaches; holds = holds; bytes = is.bytes }
 
 pub none_reported : (l : LiveView) → HoldsRow l.seat l.reports.items none → l.reports.items ≡ reports_of (holds_of l.seat)
 none_reported l h = h.reported ∙ ap reports_of (sym h.stands)

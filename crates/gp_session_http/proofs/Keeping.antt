@@ -1,8 +1,8 @@
 -- The moves of a session whose origin's answer asks for a stream.
 use Rattle.std.proofs.Common.{◌≡◌, ◌≢◌, ℕ, ◌+◌, ◌<◌, Bool, true, List, [], ◌∷◌, ◌++◌, Option, Some, None, option_map, refl, sym, ap, ◌∙◌, subst, arith, append-nil, ◌⊎◌, inl, inr}
-use Rattle.std.specs.List.{All, Contains}
+use Rattle.std.specs.List.{All}
+use mathlib.Core.List.{IsPrefix}
 use Rattle.std.proofs.lemmas.List.{map-append}
-use Rattle.std.proofs.lemmas.List.Elements.{Contains-push}
 use Rattle.gp_plain.specs.Fit.{fits}
 use Rattle.gp_plain.specs.Others.{Share}
 use Rattle.gp_plain.specs.Reports.{report}
@@ -13,7 +13,7 @@ use Rattle.gp_plain.specs.declared.reply.EndCause.{EndCause}
 use Rattle.gp_plain.specs.declared.reply.EndCause.TheVariants as cause_is
 use Rattle.gp_plain.specs.declared.reply.HoldReport.{HoldReport}
 use Rattle.gp_outside.specs.Counts.{Rose, grown}
-use Rattle.gp_outside.specs.Links.{LinkTells}
+use Rattle.gp_outside.specs.Links.{LinkTells, LinkLater}
 use Rattle.gp_outbox.specs.declared.outbox.Flushed.{Flushed}
 use Rattle.gp_outbox.specs.declared.outbox.Flushed.TheVariants as flushed
 use Rattle.gp_hub.specs.Own.{fresh_share, share_gone}
@@ -32,7 +32,7 @@ use Rattle.gp_session_hold.specs.Leaves.{LeavesEntries, LeavesHold, last_let_go,
 use Rattle.gp_session_hold.specs.Opens.{OpensTo, AttachesTo, last_opened}
 use Rattle.gp_session_hold.specs.Polls.{PollsStream, last_polled}
 use Rattle.gp_session_hold.specs.Puts.{PutsBehind}
-use Rattle.gp_session_hold.specs.Rows.{KeptView, IsKept, IsOver, IsReleased, LastHold, none, kept, over, holds_of, reports_of, numbers_of, HoldsRow, EntriesRow, DetachedRow, AttachRow, IsCounted, stream_text}
+use Rattle.gp_session_hold.specs.Rows.{KeptView, IsKept, IsOver, IsReleased, LastHold, none, kept, over, holds_of, reports_of, HoldsRow, EntriesRow, DetachedRow, AttachRow, IsCounted, stream_text}
 use Rattle.gp_session_hold.specs.Streams.{StreamView, Streams, Finished, Stopped}
 use Rattle.gp_session_hold.specs.Unlinked.{without_link}
 use Rattle.gp_session_hold.specs.declared.attaching.Opened.TheVariants as opened
@@ -51,20 +51,26 @@ use Rattle.gp_session_http.specs.declared.held.Held.TheVariants.{Attaching, Decl
 use Rattle.gp_session_http.specs.declared.held.HeldNext.TheVariants.{Go, Wait, End}
 use Rattle.gp_session_http.specs.declared.stage.Ended.{Ended}
 use Rattle.gp_session_http.specs.Grants.{AsksFor, stream_head}
-use Rattle.gp_session_http.specs.Holding.{Granting, stream_of, IsUnattached, IsDeclined, HasAttached, full_text, AttachingTold, DecliningTold, Keeps, StreamingTold, LeavesAs, LeavingTold, HasNumber, IsClosed, ClosingTold, EntriesAtEnd, end_of, LeftAs, HeldEnds, full_sent, full_gone, full_wanting, unattached_wanting, unattached_worn, told_sent, told_gone, told_wanting, kept_worn, leaving_worn, let_go, HeldFinishes, HeldLeads, IsAttachedAt, IsDeclinedAt, HasClosed, StopsWorn, StopsTold, StopsBy, worn, told, HasStoppedAt, HasDetached, StaysWorn, HasLeft, went, stays}
+use Rattle.gp_session_http.specs.Turns.{Turn, specs_before}
+use Rattle.gp_session_http.specs.Heard.{IsUnattached, IsDeclined, HasAttached, IsLastHold, full_text, end_of}
+use Rattle.gp_session_http.specs.Holding.{Granting, stream_of, AttachingTold, DecliningTold, Keeps, StreamingTold, LeavesAs, LeavingTold, IsClosed, ClosingTold, EntriesAtEnd, LeftAs, HeldEnds, full_sent, full_gone, full_wanting, unattached_wanting, unattached_worn, told_sent, told_gone, told_wanting, kept_worn, leaving_worn, let_go, HeldFinishes, HeldLeads, IsAttachedAt, IsDeclinedAt, HasClosed, StopsWorn, StopsTold, StopsBy, worn, told, HasStoppedAt, HasDetached, StaysWorn, HasLeft, went, stays}
 use Rattle.gp_session_http.specs.Views.{LiveView, Goes}
-use Rattle.gp_session_http.proofs.Granting.{with_held, goes_on, held_from, granting_on, granting_wire, granting_seat, heard_none, calls_on, unattached_same, unattached_entries, unattached_attaches, unattached_holds, none_reported, none_kept, unlinked_twice, unlinked_fits, unlinked_again}
+use Rattle.gp_session_http.proofs.Granting.{with_held, goes_on, held_from, granting_on, granting_wire, granting_seat, heard_none, calls_on, unattached_same, none_more, same_more, none_reported, none_kept, unlinked_twice, unlinked_fits, unlinked_again}
 
--- a hold that was over before its report is one of the session's
-pub has_number : (l : LiveView) (items : List HoldReport) (hold : KeptView) (o : Option EndCause) → HoldsRow l.seat items (over hold o) → HasNumber l hold
-has_number l items hold o row =
-    let last : ℕ × Share = (hold.number, row.stands.share) in
-    subst (λ (holds : List (ℕ × Share)). Contains (numbers_of holds) hold.number) (sym row.stands.all)
-    (subst (λ (ns : List ℕ). Contains ns hold.number) (sym (map-append (λ (h : ℕ × Share). h.0) row.done (last ∷ []))) (Contains-push (numbers_of row.done) hold.number))
+-- the hold that was attached last
+
+pub over_last : (l : LiveView) (items : List HoldReport) (hold : KeptView) (o : Option EndCause) → HoldsRow l.seat items (over hold o) → IsLastHold l hold
+over_last l items hold o row = record { before = row.done; share = row.stands.share; all = row.stands.all }
+
+pub kept_last : (l : LiveView) (items : List HoldReport) (hold : KeptView) → HoldsRow l.seat items (kept hold) → IsLastHold l hold
+kept_last l items hold row = record { before = row.done; share = row.stands.share; all = row.stands.all }
+
+pub last_at : (v w : LiveView) (hold : KeptView) → w.seat ≡ v.seat → IsLastHold v hold → IsLastHold w hold
+last_at v w hold same h = record { before = h.before; share = h.share; all = ap holds_of same ∙ h.all }
 
 -- the attaches stay so where the hub's end does
-attached_at : (v w : LiveView) (g : Grant) → w.seat ≡ v.seat → HasAttached v g → HasAttached w g
-attached_at v w g same h = record { spec = h.spec; spec_is = h.spec_is; attaches = subst (λ (s : SeatView). AttachRow s (h.spec ∷ []) None) (sym same) h.attaches }
+pub attached_at : (v w : LiveView) (turns : List Turn) (Asks : HoldSpec → Type 0) → w.seat ≡ v.seat → HasAttached v turns Asks → HasAttached w turns Asks
+attached_at v w turns Asks same h = record { spec = h.spec; spec_is = h.spec_is; attaches = subst (λ (s : SeatView). AttachRow s (specs_before turns ++ h.spec ∷ []) None) (sym same) h.attaches }
 
 -- the hub was asked for a hold
 
@@ -76,7 +82,7 @@ module _ (v : LiveView) (s : AttachingStage) (told : AttachingTold v s) (t : Sea
   now = with_held v v.wire v.watch t r
 
   rows : Granting now s.grant
-  rows = granting_seat v t r s.grant told.rows row
+  rows = granting_seat v t r s.grant told.rows moved row (same_more v.reports.items r.items items)
 
   went_on : Goes v now
   went_on = goes_on v v.wire v.watch t r (moved_wire_same v.wire) refl moved
@@ -85,12 +91,12 @@ module _ (v : LiveView) (s : AttachingStage) (told : AttachingTold v s) (t : Sea
   same_spec = unlinked_again _ s.spec told.spec_is
 
   module _ (entries : EntriesRow v.seat → EntriesRow t) where
-    pub attached : (hold : KeptView) → OpensTo v.seat t asked_for r.spare (opened.Kept hold) → HoldsRow t r.items (kept hold) → AttachRow t (asked_for ∷ []) None → IsAttachedAt now s.grant s.head hold
+    pub attached : (hold : KeptView) → OpensTo v.seat t asked_for r.spare (opened.Kept hold) → HoldsRow t r.items (kept hold) → AttachRow t (specs_before told.rows.heard.turns ++ asked_for ∷ []) None → IsAttachedAt now s.grant s.head hold
     attached hold o holds attaches = record {
       keeps = record {
         rows = rows;
         attached = record { spec = asked_for; spec_is = same_spec; attaches = attaches };
-        entries = entries (unattached_entries v told.is);
+        entries = entries told.is.entries;
         holds = holds;
         room = o.room_is;
       };
@@ -103,67 +109,66 @@ module _ (v : LiveView) (s : AttachingStage) (told : AttachingTold v s) (t : Sea
       bytes = told.is.bytes;
     }
 
-    pub declined : OpensTo v.seat t asked_for r.spare opened.Full → HoldsRow t r.items none → AttachRow t [] (Some asked_for) → IsDeclinedAt now s.grant
+    pub declined : OpensTo v.seat t asked_for r.spare opened.Full → HoldsRow t r.items none → AttachRow t (specs_before told.rows.heard.turns) (Some asked_for) → IsDeclinedAt now s.grant
     declined o holds attaches = record {
       rows = rows;
-      is = record { spec = asked_for; spec_is = same_spec; entries = entries (unattached_entries v told.is); attaches = attaches; holds = holds };
+      is = record { spec = asked_for; spec_is = same_spec; entries = entries told.is.entries; attaches = attaches; holds = holds };
       served = o.free;
       bytes = told.is.bytes;
     }
 
-  pub still_busy : (back : HoldSpec) → OpensTo v.seat t asked_for r.spare (opened.Busy back) → HeldLeads v now 3 (Wait (Attaching (record { grant = s.grant; head = s.head; spec = back })))
-  still_busy back o = record {
-    moved = went_on;
-    to = (
-      record {
-        rows = rows;
-        is = unattached_same v t r moved.same.number o.1.seen items told.is;
-        served = o.1.free;
-        spec_is = subst (AsksFor s.grant) (sym o.0) same_spec;
-        fit = subst (λ (x : HoldSpec). fits (Attach x) ≡ true) (sym o.0) (unlinked_fits s.spec ∙ told.fit);
-        head = told.head;
-      },
-      o.1.busy,
-    );
-  }
+  module _ (entries : EntriesRow v.seat → EntriesRow t) (holds : HoldsRow t r.items none) (attaches : AttachRow t (specs_before told.rows.heard.turns) None) where
+    still_unattached : IsUnattached now told.rows.heard.turns
+    still_unattached = unattached_same v t r v.watch told.rows.heard.turns (entries told.is.entries) attaches holds told.is
 
-  finished : (e : SessionEnd) → t.pass.seen ≡ v.seat.pass.seen → EntriesAtEnd e t → HeldEnds now s.grant e why.Nothing → (ended : Ended) → ended ≡ record { end = e; why = why.Nothing } → HeldLeads v now 3 (End ended)
-  finished e seen entries says ended is = subst (λ (x : Ended). HeldLeads v now 3 (End x)) (sym is) (record {
-    moved = went_on;
-    to = record {
-      grant = s.grant;
-      rows = rows;
-      entries = entries;
-      reported = none_reported now (unattached_holds now (unattached_same v t r moved.same.number seen items told.is));
-      released = λ _. none_kept now (unattached_holds now (unattached_same v t r moved.same.number seen items told.is));
-      says = says;
-    };
-  })
+    pub still_busy : (back : HoldSpec) → OpensTo v.seat t asked_for r.spare (opened.Busy back) → HeldLeads v now 3 (Wait (Attaching (record { grant = s.grant; head = s.head; spec = back })))
+    still_busy back o = record {
+      moved = went_on;
+      to = (
+        record {
+          rows = rows;
+          is = still_unattached;
+          served = o.1.free;
+          spec_is = subst (AsksFor s.grant) (sym o.0) same_spec;
+          fit = subst (λ (x : HoldSpec). fits (Attach x) ≡ true) (sym o.0) (unlinked_fits s.spec ∙ told.fit);
+          head = told.head;
+        },
+        o.1.busy,
+      );
+    }
 
-  pub attach_worn : OpensTo v.seat t asked_for r.spare opened.Worn → (ended : Ended) → ended ≡ record { end = end.Worn; why = why.Nothing } → HeldLeads v now 3 (End ended)
-  attach_worn o ended is =
-      let un = unattached_same v t r moved.same.number o.seen items told.is in
-      finished end.Worn o.seen (unattached_entries now un) (unattached_worn un o.worn) ended is
+    finished : (e : SessionEnd) → EntriesAtEnd e t → HeldEnds now told.rows.heard.turns s.grant e why.Nothing → (ended : Ended) → ended ≡ record { end = e; why = why.Nothing } → HeldLeads v now 3 (End ended)
+    finished e at says ended is = subst (λ (x : Ended). HeldLeads v now 3 (End x)) (sym is) (record {
+      moved = went_on;
+      to = record {
+        seat = rows.heard.seat;
+        entries = at;
+        reported = none_reported now holds;
+        released = λ _. none_kept now holds;
+        by = inl (record { grant = s.grant; rows = rows; says = says });
+      };
+    })
 
-  pub attach_wants : OpensTo v.seat t asked_for r.spare opened.NoMemory → (ended : Ended) → ended ≡ record { end = end.NoMemory; why = why.Nothing } → HeldLeads v now 3 (End ended)
-  attach_wants o ended is =
-      let un = unattached_same v t r moved.same.number o.seen items told.is in
-      finished end.NoMemory o.seen (inl (unattached_entries now un)) (unattached_wanting un) ended is
+    pub attach_worn : OpensTo v.seat t asked_for r.spare opened.Worn → (ended : Ended) → ended ≡ record { end = end.Worn; why = why.Nothing } → HeldLeads v now 3 (End ended)
+    attach_worn o ended is = finished end.Worn (entries told.is.entries) (unattached_worn still_unattached o.worn) ended is
+
+    pub attach_wants : OpensTo v.seat t asked_for r.spare opened.NoMemory → (ended : Ended) → ended ≡ record { end = end.NoMemory; why = why.Nothing } → HeldLeads v now 3 (End ended)
+    attach_wants o ended is = finished end.NoMemory (inl (entries told.is.entries)) (unattached_wanting still_unattached) ended is
 
 -- the client's end alone moved
 
 module _ (v : LiveView) (x : WireView) (moved : MovedWire v.wire x) (received : x.link.received ≡ v.wire.link.received) where
-  abbrev with_client : LiveView
+  abbrev pub with_client : LiveView
   with_client = with_held v x v.watch v.seat v.reports
 
-  went_client : Goes v with_client
+  pub went_client : Goes v with_client
   went_client = goes_on v x v.watch v.seat v.reports moved refl (moved_seat_same v.seat)
 
-  declined_still : (g : Grant) → IsDeclined v g → IsDeclined with_client g
-  declined_still g h = record { spec = h.spec; spec_is = h.spec_is; entries = h.entries; attaches = h.attaches; holds = h.holds }
+  pub declined_still : (turns : List Turn) (Asks : HoldSpec → Type 0) → IsDeclined v turns Asks → IsDeclined with_client turns Asks
+  declined_still turns Asks h = record { spec = h.spec; spec_is = h.spec_is; entries = h.entries; attaches = h.attaches; holds = h.holds }
 
   keeps_still : (g : Grant) (hold : KeptView) → Keeps v g hold → Keeps with_client g hold
-  keeps_still g hold k = record { rows = granting_wire v x v.reports g k.rows moved received; attached = attached_at v with_client g refl k.attached; entries = k.entries; holds = k.holds; room = k.room }
+  keeps_still g hold k = record { rows = granting_wire v x g k.rows moved received; attached = attached_at v with_client k.rows.heard.turns (AsksFor g) refl k.attached; entries = k.entries; holds = k.holds; room = k.room }
 
 -- the stream begins
 module _ (v : LiveView) (g : Grant) (head : List ℕ) (hold : KeptView) (h : IsAttachedAt v g head hold) (x : WireView) where
@@ -182,6 +187,7 @@ module _ (v : LiveView) (g : Grant) (head : List ℕ) (hold : KeptView) (h : IsA
             streams = streams;
           },
           omega arith,
+          tt,
         );
       }
 
@@ -196,6 +202,7 @@ module _ (v : LiveView) (g : Grant) (head : List ℕ) (hold : KeptView) (h : IsA
             leaves = record { share = h.share; is = h.is; part = []; is_part = (stream_text g.chunked (stream_head g) h.share.taken None, refl); bytes = h.bytes };
           },
           omega arith,
+          tt,
         );
       }))
 
@@ -212,12 +219,13 @@ module _ (v : LiveView) (g : Grant) (h : IsDeclinedAt v g) (x : WireView) (start
     moved = went_client v x moved_here received_here;
     to = (
       record {
-        rows = granting_wire v x v.reports g h.rows moved_here received_here;
-        is = declined_still v x moved_here received_here g h.is;
+        rows = granting_wire v x g h.rows moved_here received_here;
+        is = declined_still v x moved_here received_here h.rows.heard.turns (AsksFor g) h.is;
         served = h.served;
         bytes = sent_put v.wire x [] full_text h.bytes start link rest;
       },
       omega arith,
+      tt,
     );
   }
 
@@ -225,12 +233,11 @@ module _ (v : LiveView) (g : Grant) (h : IsDeclinedAt v g) (x : WireView) (start
   declines_not rest ended is = subst (λ (y : Ended). HeldLeads v (with_held v x v.watch v.seat v.reports) 3 (End y)) (sym is) (record {
     moved = went_client v x moved_here received_here;
     to = record {
-      grant = g;
-      rows = granting_wire v x v.reports g h.rows moved_here received_here;
+      seat = h.rows.heard.seat;
       entries = inl h.is.entries;
       reported = none_reported v h.is.holds;
       released = λ _. none_kept v h.is.holds;
-      says = full_wanting (declined_still v x moved_here received_here g h.is) (sent_same v.wire x [] h.bytes start (ap (λ (t : LinkTells). t.sent) link) rest);
+      by = inl (record { grant = g; rows = granting_wire v x g h.rows moved_here received_here; says = full_wanting (declined_still v x moved_here received_here h.rows.heard.turns (AsksFor g) h.is) (sent_same v.wire x [] h.bytes start (ap (λ (t : LinkTells). t.sent) link) rest) });
     };
   })
 
@@ -243,22 +250,21 @@ module _ (v : LiveView) (s : DecliningStage) (h : DecliningTold v s) (x : WireVi
   flush_moved : MovedWire v.wire x
   flush_moved = moved_flushed v.wire x f fl
 
-  still_declined : IsDeclined sent_now s.grant
-  still_declined = declined_still v x flush_moved fl.passed.received s.grant h.is
+  still_declined : IsDeclined sent_now h.rows.heard.turns (AsksFor s.grant)
+  still_declined = declined_still v x flush_moved fl.passed.received h.rows.heard.turns (AsksFor s.grant) h.is
 
   still_said : BytesRow x (exactly full_text)
   still_said = sent_flushed v.wire x full_text f h.bytes fl
 
-  declined_end : (e : SessionEnd) → EntriesAtEnd e v.seat → HeldEnds sent_now s.grant e why.Full → (ended : Ended) → ended ≡ record { end = e; why = why.Full } → HeldLeads v sent_now 1 (End ended)
+  declined_end : (e : SessionEnd) → EntriesAtEnd e v.seat → HeldEnds sent_now h.rows.heard.turns s.grant e why.Full → (ended : Ended) → ended ≡ record { end = e; why = why.Full } → HeldLeads v sent_now 1 (End ended)
   declined_end e entries says ended is = subst (λ (y : Ended). HeldLeads v sent_now 1 (End y)) (sym is) (record {
     moved = went_client v x flush_moved fl.passed.received;
     to = record {
-      grant = s.grant;
-      rows = granting_wire v x v.reports s.grant h.rows flush_moved fl.passed.received;
+      seat = h.rows.heard.seat;
       entries = entries;
       reported = none_reported v h.is.holds;
       released = λ _. none_kept v h.is.holds;
-      says = says;
+      by = inl (record { grant = s.grant; rows = granting_wire v x s.grant h.rows flush_moved fl.passed.received; says = says });
     };
   })
 
@@ -269,14 +275,14 @@ declining_sent v s h x fl ended is =
 pub declining_gone : (v : LiveView) (s : DecliningStage) (h : DecliningTold v s) (x : WireView) → Flushes v.wire x flushed.Failed → (ended : Ended) → ended ≡ record { end = end.ClientGone; why = why.Full } → HeldLeads v (with_held v x v.watch v.seat v.reports) 1 (End ended)
 declining_gone v s h x fl ended is =
     declined_end v s h x flushed.Failed fl end.ClientGone (inl h.is.entries)
-    (full_gone (still_declined v s h x flushed.Failed fl) (still_said v s h x flushed.Failed fl) (rose_since v.wire x (λ (t : LinkTells). t.faults) fl.start h.rows.links.faults fl.cause.1)) ended is
+    (full_gone (still_declined v s h x flushed.Failed fl) (still_said v s h x flushed.Failed fl) (rose_since v.wire x (λ (t : LinkTells). t.faults) fl.start h.rows.heard.links.faults fl.cause.1)) ended is
 
 pub declining_waits : (v : LiveView) (s : DecliningStage) (h : DecliningTold v s) (x : WireView) → Flushes v.wire x flushed.NotReady → HeldLeads v (with_held v x v.watch v.seat v.reports) 1 (Wait (Declining s))
 declining_waits v s h x fl = record {
   moved = went_client v x (moved_flushed v.wire x flushed.NotReady fl) fl.passed.received;
   to = (
     record {
-      rows = granting_wire v x v.reports s.grant h.rows (moved_flushed v.wire x flushed.NotReady fl) fl.passed.received;
+      rows = granting_wire v x s.grant h.rows (moved_flushed v.wire x flushed.NotReady fl) fl.passed.received;
       is = still_declined v s h x flushed.NotReady fl;
       served = h.served;
       bytes = still_said v s h x flushed.NotReady fl;
@@ -292,25 +298,24 @@ module _ (v : LiveView) (s : ClosingStage) (h : ClosingTold v s) (x : WireView) 
   close_moved : MovedWire v.wire x
   close_moved = moved_flushed v.wire x f fl
 
-  still_closed : IsClosed closed_now s.grant s.hold.value s.cause
+  still_closed : IsClosed closed_now h.rows.heard.turns s.grant s.hold.value s.cause
   still_closed = record {
-    attached = attached_at v closed_now s.grant refl h.is.attached;
-    own = h.is.own;
+    attached = attached_at v closed_now h.rows.heard.turns (AsksFor s.grant) refl h.is.attached;
+    own = last_at v closed_now s.hold.value refl h.is.own;
     entries = h.is.entries;
     holds = h.is.holds;
     finished = finished_flushed (stream_of s.grant s.hold.value) v.wire x v.seat s.cause f fl h.is.finished;
   }
 
-  closed_end : (e : SessionEnd) → EntriesAtEnd e v.seat → HeldEnds closed_now s.grant e why.Nothing → (ended : Ended) → ended ≡ record { end = e; why = why.Nothing } → HeldLeads v closed_now 1 (End ended)
+  closed_end : (e : SessionEnd) → EntriesAtEnd e v.seat → HeldEnds closed_now h.rows.heard.turns s.grant e why.Nothing → (ended : Ended) → ended ≡ record { end = e; why = why.Nothing } → HeldLeads v closed_now 1 (End ended)
   closed_end e entries says ended is = subst (λ (y : Ended). HeldLeads v closed_now 1 (End y)) (sym is) (record {
     moved = went_client v x close_moved fl.passed.received;
     to = record {
-      grant = s.grant;
-      rows = granting_wire v x v.reports s.grant h.rows close_moved fl.passed.received;
+      seat = h.rows.heard.seat;
       entries = entries;
       reported = none_reported v h.is.holds;
       released = λ _. none_kept v h.is.holds;
-      says = says;
+      by = inl (record { grant = s.grant; rows = granting_wire v x s.grant h.rows close_moved fl.passed.received; says = says });
     };
   })
 
@@ -333,14 +338,14 @@ closing_sent v s h x fl e same ended is =
 pub closing_gone : (v : LiveView) (s : ClosingStage) (h : ClosingTold v s) (x : WireView) → Flushes v.wire x flushed.Failed → (ended : Ended) → ended ≡ record { end = end.ClientGone; why = why.Nothing } → HeldLeads v (with_held v x v.watch v.seat v.reports) 1 (End ended)
 closing_gone v s h x fl ended is =
     closed_end v s h x flushed.Failed fl end.ClientGone (inl h.is.entries)
-    (told_gone s.hold.value s.cause (still_closed v s h x flushed.Failed fl) (rose_since v.wire x (λ (t : LinkTells). t.faults) fl.start h.rows.links.faults fl.cause.1)) ended is
+    (told_gone s.hold.value s.cause (still_closed v s h x flushed.Failed fl) (rose_since v.wire x (λ (t : LinkTells). t.faults) fl.start h.rows.heard.links.faults fl.cause.1)) ended is
 
 pub closing_waits : (v : LiveView) (s : ClosingStage) (h : ClosingTold v s) (x : WireView) → Flushes v.wire x flushed.NotReady → HeldLeads v (with_held v x v.watch v.seat v.reports) 1 (Wait (Closing s))
 closing_waits v s h x fl = record {
   moved = went_client v x (moved_flushed v.wire x flushed.NotReady fl) fl.passed.received;
   to = (
     record {
-      rows = granting_wire v x v.reports s.grant h.rows (moved_flushed v.wire x flushed.NotReady fl) fl.passed.received;
+      rows = granting_wire v x s.grant h.rows (moved_flushed v.wire x flushed.NotReady fl) fl.passed.received;
       served = h.served;
       is = still_closed v s h x flushed.NotReady fl;
     },
@@ -361,10 +366,10 @@ module _ (v : LiveView) (s : StreamingStage) (h : StreamingTold v s) (u : WatchV
   stream_went = goes_on v x u t v.reports p.wire uses.moved.start p.seat
 
   stream_rows : Granting polled_now s.grant
-  stream_rows = granting_on v x u t v.reports s.grant h.keeps.rows p.wire p.heard p.received (calls_on v.watch u now uses h.keeps.rows.calls) (times h.keeps.rows.times) p.row
+  stream_rows = granting_on v x u t v.reports s.grant h.keeps.rows p.wire p.heard p.received (calls_on v.watch u now uses h.keeps.rows.heard.calls) (times h.keeps.rows.heard.times) p.seat p.row (none_more v.reports.items)
 
-  stream_attached : HasAttached polled_now s.grant
-  stream_attached = record { spec = h.keeps.attached.spec; spec_is = h.keeps.attached.spec_is; attaches = p.attaches (h.keeps.attached.spec ∷ []) None h.keeps.attached.attaches }
+  stream_attached : HasAttached polled_now h.keeps.rows.heard.turns (AsksFor s.grant)
+  stream_attached = record { spec = h.keeps.attached.spec; spec_is = h.keeps.attached.spec_is; attaches = p.attaches (specs_before h.keeps.rows.heard.turns ++ h.keeps.attached.spec ∷ []) None h.keeps.attached.attaches }
 
   stream_framed : y ≡ stream_of s.grant y.hold
   stream_framed =
@@ -396,7 +401,7 @@ streaming_waits v s h u now uses times y x t p = record {
       moved_seat = moved_seat_same v.seat;
       now = now;
       moment = uses.moment;
-      last = times h.keeps.rows.times now uses.moment;
+      last = times h.keeps.rows.heard.times now uses.moment;
       heard = p.heard;
       received = p.received;
       pends = p.says.1;
@@ -417,9 +422,9 @@ streaming_ended v s h u now uses times y x t cause p = record {
   finished = p.says;
 }
 
-is_gone : (v : LiveView) (g : Grant) (x : WireView) → Granting v g → MovedWire v.wire x → IsGone v.wire.link x.link → HasFailed x ⊎ HasEnded x
-is_gone v g x h moved (inl ends) = inr (rose_since v.wire x (λ (t : LinkTells). t.ends) moved.start h.links.ends ends)
-is_gone v g x h moved (inr faults) = inl (rose_since v.wire x (λ (t : LinkTells). t.faults) moved.start h.links.faults faults)
+pub is_gone : (v : LiveView) (x : WireView) → LinkLater v.wire.start v.wire.link → MovedWire v.wire x → IsGone v.wire.link x.link → HasFailed x ⊎ HasEnded x
+is_gone v x links moved (inl ends) = inr (rose_since v.wire x (λ (t : LinkTells). t.ends) moved.start links.ends ends)
+is_gone v x links moved (inr faults) = inl (rose_since v.wire x (λ (t : LinkTells). t.faults) moved.start links.faults faults)
 
 pub streaming_gone : (v : LiveView) (s : StreamingStage) (h : StreamingTold v s) (u : WatchView) (now : ℕ) (uses : Uses v.watch u now) (times : WatchRow v.watch → WatchRow u) (y : StreamView) (x : WireView) (t : SeatView)
     (p : PollsStream s.stream y v.wire x v.seat t now polled.Gone) → HeldLeads v (with_held v x u t v.reports) 2 (Go (Leaving (record { grant = s.grant; hold = y.hold; parting = Gone })))
@@ -431,10 +436,11 @@ streaming_gone v s h u now uses times y x t p = record {
       served = p.serves h.served;
       leaves = (
         subst (λ (z : StreamView). Streams z x t) (stream_framed v s h u now uses times y x t polled.Gone p) p.says.0,
-        is_gone v s.grant x h.keeps.rows p.wire p.says.1,
+        is_gone v x h.keeps.rows.heard.links p.wire p.says.1,
       );
     },
     omega arith,
+    tt,
   );
 }
 
@@ -453,6 +459,7 @@ streaming_wants v s h u now uses times y x t p = record {
       leaves = subst (λ (z : StreamView). Stopped z x t None) (stream_framed v s h u now uses times y x t polled.NoMemory p) (whole_part y x t p.says);
     },
     omega arith,
+    tt,
   );
 }
 
@@ -467,6 +474,7 @@ streaming_unput v s h u now uses times y x t p = record {
       leaves = subst (λ (z : StreamView). Stopped z x t None) (stream_framed v s h u now uses times y x t (polled.Unput None) p) p.says;
     },
     omega arith,
+    tt,
   );
 }
 
@@ -494,39 +502,49 @@ streaming_told v s h u now uses times y x t cause p = record {
 -- the hold is reported
 
 module _ (v : LiveView) (r : Roomy HoldReport) where
-  abbrev reported_now : LiveView
+  abbrev pub reported_now : LiveView
   reported_now = with_held v v.wire v.watch v.seat r
 
-  reported_went : Goes v reported_now
+  pub reported_went : Goes v reported_now
   reported_went = goes_on v v.wire v.watch v.seat r (moved_wire_same v.wire) refl (moved_seat_same v.seat)
 
-  reported_rows : (g : Grant) → Granting v g → Granting reported_now g
-  reported_rows g h = granting_seat v v.seat r g h (λ row. row)
+  reported_rows : (g : Grant) → Granting v g → IsPrefix v.reports.items r.items → Granting reported_now g
+  reported_rows g h more = granting_seat v v.seat r g h (moved_seat_same v.seat) (λ row. row) more
+
+  -- one report more
+  pub over_more : (hold : KeptView) (o : Option EndCause) → HoldsRow v.seat v.reports.items (over hold o) → ((share : Share) → IsCounted hold share → o ≡ share.told → r.items ≡ v.reports.items ++ report hold.number share ∷ []) → IsPrefix v.reports.items r.items
+  over_more hold o row says = (report hold.number row.stands.share ∷ [], sym (says row.stands.share row.stands.is.counted (sym row.stands.is.told_is)))
+
+  pub kept_more : (hold : KeptView) → HoldsRow v.seat v.reports.items (kept hold) → ((share : Share) → IsCounted hold share → None ≡ share.told → r.items ≡ v.reports.items ++ report hold.number share ∷ []) → IsPrefix v.reports.items r.items
+  kept_more hold row says = (report hold.number row.stands.share ∷ [], sym (says row.stands.share row.stands.is.counted (sym row.stands.is.untold)))
 
   -- of a kept hold too
-  kept_reported : (hold : KeptView) → HoldsRow v.seat v.reports.items (kept hold) → ((share : Share) → IsCounted hold share → None ≡ share.told → r.items ≡ v.reports.items ++ report hold.number share ∷ []) → r.items ≡ reports_of (holds_of v.seat)
+  pub kept_reported : (hold : KeptView) → HoldsRow v.seat v.reports.items (kept hold) → ((share : Share) → IsCounted hold share → None ≡ share.told → r.items ≡ v.reports.items ++ report hold.number share ∷ []) → r.items ≡ reports_of (holds_of v.seat)
   kept_reported hold row says =
       let share = row.stands.share in
       let last : ℕ × Share = (hold.number, share) in
       says share row.stands.is.counted (sym row.stands.is.untold) ∙ ap (λ rs. rs ++ report hold.number share ∷ []) row.reported ∙ sym (map-append (λ (h : ℕ × Share). report h.0 h.1) row.done (last ∷ [])) ∙ ap reports_of (sym row.stands.all)
 
-  over_reported : HoldsRow v.seat r.items none → r.items ≡ reports_of (holds_of v.seat)
+  pub over_reported : HoldsRow v.seat r.items none → r.items ≡ reports_of (holds_of v.seat)
   over_reported row = row.reported ∙ ap reports_of (sym row.stands)
 
-  over_released : HoldsRow v.seat r.items none → All IsReleased (holds_of v.seat)
+  pub over_released : HoldsRow v.seat r.items none → All IsReleased (holds_of v.seat)
   over_released row = subst (All IsReleased) (sym row.stands) row.released
 
-  pub closes : (s : StreamingStage) (cause : EndCause) → HasClosed v s cause → HoldsRow v.seat r.items none → (c : ClosingStage) → c.grant ≡ s.grant → c.hold.value ≡ s.stream.hold → c.cause ≡ cause → HeldLeads v reported_now 2 (Go (Closing c))
-  closes s cause h row c grant hold is = record { moved = reported_went; to = (told_now, omega arith) }
+  pub closes : (s : StreamingStage) (cause : EndCause) → HasClosed v s cause → HoldsRow v.seat r.items none → IsPrefix v.reports.items r.items → (c : ClosingStage) → c.grant ≡ s.grant → c.hold.value ≡ s.stream.hold → c.cause ≡ cause → HeldLeads v reported_now 2 (Go (Closing c))
+  closes s cause h row more c grant hold is = record { moved = reported_went; to = (told_now, omega arith, tt) }
     where
-      by_parts : (g : Grant) (k : KeptView) (d : EndCause) → g ≡ s.grant → k ≡ s.stream.hold → d ≡ cause → Granting reported_now g × IsClosed reported_now g k d
+      abbrev Parts : Grant → KeptView → EndCause → Type 0
+      Parts g k d = (rows : Granting reported_now g) × IsClosed reported_now rows.heard.turns g k d
+
+      by_parts : (g : Grant) (k : KeptView) (d : EndCause) → g ≡ s.grant → k ≡ s.stream.hold → d ≡ cause → Parts g k d
       by_parts g k d e1 e2 e3 =
-          subst (λ (a : Grant). Granting reported_now a × IsClosed reported_now a k d) (sym e1)
-          (subst (λ (a : KeptView). Granting reported_now s.grant × IsClosed reported_now s.grant a d) (sym e2) (subst (λ (a : EndCause). Granting reported_now s.grant × IsClosed reported_now s.grant s.stream.hold a) (sym e3) (
-            reported_rows s.grant h.rows,
+          subst (λ (a : Grant). Parts a k d) (sym e1)
+          (subst (λ (a : KeptView). Parts s.grant a d) (sym e2) (subst (λ (a : EndCause). Parts s.grant s.stream.hold a) (sym e3) (
+            reported_rows s.grant h.rows more,
             record {
-              attached = attached_at v reported_now s.grant refl h.attached;
-              own = has_number v v.reports.items s.stream.hold (Some cause) h.holds;
+              attached = attached_at v reported_now h.rows.heard.turns (AsksFor s.grant) refl h.attached;
+              own = over_last v v.reports.items s.stream.hold (Some cause) h.holds;
               entries = h.entries;
               holds = row;
               finished = subst (λ (z : StreamView). Finished z v.wire v.seat cause) h.framed h.finished;
@@ -536,11 +554,11 @@ module _ (v : LiveView) (r : Roomy HoldReport) where
       told_now : ClosingTold reported_now c
       told_now = let both = by_parts c.grant c.hold.value c.cause grant hold is in record { rows = both.0; served = h.served; is = both.1 }
 
-  reported_end : (n : ℕ) (g : Grant) (e : SessionEnd) → Granting v g → EntriesAtEnd e v.seat → r.items ≡ reports_of (holds_of v.seat) → (e ≢ end.Worn → All IsReleased (holds_of v.seat)) → HeldEnds reported_now g e why.Nothing
+  reported_end : (n : ℕ) (g : Grant) (e : SessionEnd) (rows : Granting v g) → IsPrefix v.reports.items r.items → EntriesAtEnd e v.seat → r.items ≡ reports_of (holds_of v.seat) → (e ≢ end.Worn → All IsReleased (holds_of v.seat)) → HeldEnds reported_now rows.heard.turns g e why.Nothing
       → (ended : Ended) → ended ≡ record { end = e; why = why.Nothing } → HeldLeads v reported_now n (End ended)
-  reported_end n g e h entries all released says ended is = subst (λ (y : Ended). HeldLeads v reported_now n (End y)) (sym is) (record {
+  reported_end n g e h more entries all released says ended is = subst (λ (y : Ended). HeldLeads v reported_now n (End y)) (sym is) (record {
     moved = reported_went;
-    to = record { grant = g; rows = reported_rows g h; entries = entries; reported = all; released = released; says = says };
+    to = record { seat = h.heard.seat; entries = entries; reported = all; released = released; by = inl (record { grant = g; rows = reported_rows g h more; says = says }) };
   })
 
   pub stops_by : (s : StreamingStage) (end_told : Option EndCause) (e : SessionEnd) → HasStoppedAt v s end_told e
@@ -550,12 +568,12 @@ module _ (v : LiveView) (r : Roomy HoldReport) where
     where
       by_kind : (o : Option EndCause) (d : SessionEnd) → StopsBy v s o d → ((share : Share) → IsCounted s.stream.hold share → o ≡ share.told → r.items ≡ v.reports.items ++ report s.stream.hold.number share ∷ [])
           → (HoldsRow v.seat v.reports.items (over s.stream.hold o) → HoldsRow v.seat r.items none) → (ended : Ended) → ended ≡ record { end = d; why = why.Nothing } → HeldLeads v reported_now 2 (End ended)
-      by_kind o d (worn w) tells on ended is = reported_end 2 s.grant end.Worn w.keeps.rows w.keeps.entries (kept_reported s.stream.hold w.keeps.holds tells) (λ no. absurd (no refl))
-          (kept_worn s.stream.hold (attached_at v reported_now s.grant refl w.keeps.attached) (subst (λ (z : StreamView). Streams z v.wire v.seat) h.framed w.streams) w.worn) ended is
-      by_kind o d (told cause k) tells on ended is = reported_end 2 s.grant end.NoMemory k.rows (inl k.entries) (over_reported (on k.holds)) (λ _. over_released (on k.holds))
+      by_kind o d (worn w) tells on ended is = reported_end 2 s.grant end.Worn w.keeps.rows (kept_more s.stream.hold w.keeps.holds tells) w.keeps.entries (kept_reported s.stream.hold w.keeps.holds tells) (λ no. absurd (no refl))
+          (kept_worn s.stream.hold (attached_at v reported_now w.keeps.rows.heard.turns (AsksFor s.grant) refl w.keeps.attached) (last_at v reported_now s.stream.hold refl (kept_last v v.reports.items s.stream.hold w.keeps.holds)) (subst (λ (z : StreamView). Streams z v.wire v.seat) h.framed w.streams) w.worn) ended is
+      by_kind o d (told cause k) tells on ended is = reported_end 2 s.grant end.NoMemory k.rows (over_more s.stream.hold (Some cause) k.holds tells) (inl k.entries) (over_reported (on k.holds)) (λ _. over_released (on k.holds))
           (told_wanting s.stream.hold cause (record {
-            attached = attached_at v reported_now s.grant refl k.attached;
-            own = has_number v v.reports.items s.stream.hold (Some cause) k.holds;
+            attached = attached_at v reported_now k.rows.heard.turns (AsksFor s.grant) refl k.attached;
+            own = over_last v v.reports.items s.stream.hold (Some cause) k.holds;
             stopped = subst (λ (z : StreamView). Stopped z v.wire v.seat (Some cause)) h.framed k.stopped;
           })) ended is
 
@@ -567,16 +585,16 @@ module _ (v : LiveView) (r : Roomy HoldReport) where
   leaves_again Gone z l = l
   leaves_again Wanting z l = l
 
-  parted : (p : Parting) (n : ℕ) → DetachedRow v.seat n → EntriesAtEnd (end_of p) v.seat
+  pub parted : (p : Parting) (n : ℕ) → DetachedRow v.seat n → EntriesAtEnd (end_of p) v.seat
   parted Gone n d = inr (n, d)
   parted Wanting n d = inr (n, d)
 
   pub leaves_by : (s : LeavingStage) (e : SessionEnd) → HasLeft v s e → ((share : Share) → IsCounted s.hold share → None ≡ share.told → r.items ≡ v.reports.items ++ report s.hold.number share ∷ [])
       → (HoldsRow v.seat v.reports.items (over s.hold None) → HoldsRow v.seat r.items none) → (ended : Ended) → ended ≡ record { end = e; why = why.Nothing } → HeldLeads v reported_now 1 (End ended)
-  leaves_by s e (went d) says row ended is = reported_end 1 s.grant (end_of s.parting) d.rows (parted s.parting s.hold.number d.detached) (over_reported (row d.holds)) (λ _. over_released (row d.holds))
-      (let_go s.hold s.parting (attached_at v reported_now s.grant refl d.attached) d.detached (left_again s.parting s.grant s.hold d.left)) ended is
-  leaves_by s e (stays k) says row ended is = reported_end 1 s.grant end.Worn k.keeps.rows k.keeps.entries (kept_reported s.hold k.keeps.holds says) (λ no. absurd (no refl))
-      (leaving_worn s.hold s.parting (attached_at v reported_now s.grant refl k.keeps.attached) (leaves_again s.parting (stream_of s.grant s.hold) k.leaves) k.worn) ended is
+  leaves_by s e (went d) says row ended is = reported_end 1 s.grant (end_of s.parting) d.rows (over_more s.hold None d.holds says) (parted s.parting s.hold.number d.detached) (over_reported (row d.holds)) (λ _. over_released (row d.holds))
+      (let_go s.hold s.parting (attached_at v reported_now d.rows.heard.turns (AsksFor s.grant) refl d.attached) (last_at v reported_now s.hold refl (over_last v v.reports.items s.hold None d.holds)) d.detached (left_again s.parting s.grant s.hold d.left)) ended is
+  leaves_by s e (stays k) says row ended is = reported_end 1 s.grant end.Worn k.keeps.rows (kept_more s.hold k.keeps.holds says) k.keeps.entries (kept_reported s.hold k.keeps.holds says) (λ no. absurd (no refl))
+      (leaving_worn s.hold s.parting (attached_at v reported_now k.keeps.rows.heard.turns (AsksFor s.grant) refl k.keeps.attached) (last_at v reported_now s.hold refl (kept_last v v.reports.items s.hold k.keeps.holds)) (leaves_again s.parting (stream_of s.grant s.hold) k.leaves) k.worn) ended is
 
 -- the hold is let go
 
@@ -599,11 +617,11 @@ module _ (v : LiveView) (s : LeavingStage) (h : LeavingTold v s) (t : SeatView) 
   gone_went = goes_on v v.wire v.watch t v.reports (moved_wire_same v.wire) refl moved
 
   gone_rows : Granting gone_now s.grant
-  gone_rows = granting_seat v t v.reports s.grant h.keeps.rows row
+  gone_rows = granting_seat v t v.reports s.grant h.keeps.rows moved row (none_more v.reports.items)
 
   module _ (attaches : (specs : List HoldSpec) (refused : Option HoldSpec) → AttachRow v.seat specs refused → AttachRow t specs refused) where
-    gone_attached : HasAttached gone_now s.grant
-    gone_attached = record { spec = h.keeps.attached.spec; spec_is = h.keeps.attached.spec_is; attaches = attaches (h.keeps.attached.spec ∷ []) None h.keeps.attached.attaches }
+    gone_attached : HasAttached gone_now h.keeps.rows.heard.turns (AsksFor s.grant)
+    gone_attached = record { spec = h.keeps.attached.spec; spec_is = h.keeps.attached.spec_is; attaches = attaches (specs_before h.keeps.rows.heard.turns ++ h.keeps.attached.spec ∷ []) None h.keeps.attached.attaches }
 
     pub detached : LeavesEntries t s.hold.number let_go_is.Gone → HoldsRow t v.reports.items (over s.hold None) → ((share : Share) → IsKept v.seat s.hold share → LeavesHold t s.hold share let_go_is.Gone) → (e : SessionEnd) → e ≡ end_of s.parting → HasLeft gone_now s e
     detached entries holds leaves e is = subst (HasLeft gone_now s) (sym is)

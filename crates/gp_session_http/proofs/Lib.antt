@@ -1,7 +1,7 @@
 pub mod Rows
 pub mod Putting
 pub mod Hearing
-pub mod Answering
+pub mod Talking
 pub mod Sending
 pub mod Granting
 pub mod Collecting

@@ -11,7 +11,7 @@ use Rattle.gp_hub.specs.declared.outcome.SessionEnd.TheVariants as end
 use Rattle.gp_exchange.proofs.Leading.{later_same as dial_same, later_later as dial_later}
 use Rattle.gp_exchange.proofs.Causes.{waits_from}
 use Rattle.gp_session.specs.Wires.{WireView, MovedWire, RequestRow, Sent, BytesRow, exactly, Flushes}
-use Rattle.gp_session.specs.Lines.{LineView, MovedLine, LineRow}
+use Rattle.gp_session.specs.Lines.{Aim, LineView, MovedLine, LineRow, Last}
 use Rattle.gp_session.specs.Watches.{WatchView}
 use Rattle.gp_session.proofs.Moving.{rose_since, later_since, request_same, sent_flushed, sent_put, sent_same, moved_flushed, moved_put, moved_seat_same, moved_seat_again, moved_wire_same, moved_wire_again, read_waited_from, write_waited_from}
 use Rattle.gp_session_http.specs.declared.stage.Stage.{Stage}
@@ -22,7 +22,11 @@ use Rattle.gp_session_http.specs.declared.stage.Next.TheVariants.{Go, Wait, Hold
 use Rattle.gp_session_http.specs.Routing.{Charter}
 use Rattle.gp_session_http.specs.Passing.{ArePartsOf}
 use Rattle.gp_session_http.specs.Views.{LiveView, Moved, SaysMore}
-use Rattle.gp_session_http.specs.Trace.{Asks, last_of, HasAim, IsAt, text_of, moment_of, TimesRow, Stays, Told}
+use Rattle.gp_plain.specs.declared.reply.HoldReport.{HoldReport}
+use Rattle.gp_session.specs.Seats.{SeatView}
+use Rattle.gp_session_http.specs.declared.asked.Asked.{Asked}
+use Rattle.gp_session_http.specs.Turns.{Past, PastOf, aims_of}
+use Rattle.gp_session_http.specs.Trace.{asked_in, Asks, last_of, HasAim, IsAt, text_of, moment_of, TimesRow, Stays, Told}
 use Rattle.gp_session_http.specs.Moves.{IsReading, IsTalking, DialWaited, HasCode, EndSays, why_at, PassedOn, HasPassed, Pends, passed, waits, Used, AsksAtEnd, IsAtEnd, TimesAtEnd, shape_at_end, hung_up, ToldAtEnd, LeadsTo, Leads}
 
 abbrev pub with_wire : LiveView → WireView → LiveView
@@ -57,7 +61,7 @@ pub line_again : (k l m : LineView) → MovedLine k l → MovedLine l m → Move
 line_again k l m a b = record { start = b.start ∙ a.start; later = dial_later k.dial l.dial m.dial a.later b.later }
 
 pub moved_over : (v : LiveView) (w : WireView) (more : List ℕ) → MovedWire v.wire w → SaysMore v.wire w more → Moved v (with_wire v w)
-moved_over v w more m says = record { wire = m; line = line_same v.line; watch = refl; seat = moved_seat_same v.seat; charter = refl; more = more; says = says }
+moved_over v w more m says = record { wire = m; line = line_same v.line; watch = refl; seat = moved_seat_same v.seat; charter = refl; reports = refl; more = more; says = says }
 
 pub moved_same : (v : LiveView) → Moved v v
 moved_same v = record {
@@ -66,6 +70,7 @@ moved_same v = record {
   watch = refl;
   seat = moved_seat_same v.seat;
   charter = refl;
+  reports = refl;
   more = [];
   says = says_same v.wire v.wire refl refl refl;
 }
@@ -77,6 +82,7 @@ moved_line v l m = record {
   watch = refl;
   seat = moved_seat_same v.seat;
   charter = refl;
+  reports = refl;
   more = [];
   says = says_same v.wire v.wire refl refl refl;
 }
@@ -88,6 +94,7 @@ moved_watch v w start = record {
   watch = start;
   seat = moved_seat_same v.seat;
   charter = refl;
+  reports = refl;
   more = [];
   says = says_same v.wire v.wire refl refl refl;
 }
@@ -99,6 +106,7 @@ moved_again u v w a b = record {
   watch = b.watch ∙ a.watch;
   seat = moved_seat_again u.seat v.seat w.seat a.seat b.seat;
   charter = b.charter ∙ a.charter;
+  reports = b.reports ∙ a.reports;
   more = a.more ++ b.more;
   says = says_again u.wire v.wire w.wire a.more b.more a.says b.says;
 }
@@ -115,13 +123,10 @@ moved_unput v w start link rest = moved_over v w [] (moved_put v.wire w start li
 -- what stays
 
 pub stays_wire : (v : LiveView) (w : WireView) → MovedWire v.wire w → Stays v → Stays (with_wire v w)
-stays_wire v w m s = record { entries = s.entries; holds = s.holds; reports = s.reports; seat = s.seat; served = s.served; links = later_since v.wire w s.links m; dials = s.dials }
+stays_wire v w m s = record { seat = s.seat; served = s.served; links = later_since v.wire w s.links m; dials = s.dials }
 
 pub stays_line : (v : LiveView) (l : LineView) → MovedLine v.line l → Stays v → Stays (with_line v l)
 stays_line v l m s = record {
-  entries = s.entries;
-  holds = s.holds;
-  reports = s.reports;
   seat = s.seat;
   served = s.served;
   links = s.links;
@@ -129,7 +134,21 @@ stays_line v l m s = record {
 }
 
 pub stays_watch : (v : LiveView) (w : WatchView) → Stays v → Stays (with_watch v w)
-stays_watch v w s = record { entries = s.entries; holds = s.holds; reports = s.reports; seat = s.seat; served = s.served; links = s.links; dials = s.dials }
+stays_watch v w s = record { seat = s.seat; served = s.served; links = s.links; dials = s.dials }
+
+-- the talks and the holds before, where the last talk went on
+
+pub past_on : (l m : LineView) (c : Charter) (s : SeatView) (reports : List HoldReport) (asked : Asked) (a b : Last) → m.start ≡ l.start → ((aims : List Aim) → LineRow l aims a → LineRow m aims b) → Past l c s reports asked a → Past m c s reports asked b
+past_on l m c s reports asked a b start row h = record {
+  turns = h.turns;
+  behind = h.behind;
+  held = h.held;
+  talks = λ alone. row (aims_of h.turns) (h.talks (subst IsIdle start alone));
+  entries = h.entries;
+  attaches = h.attaches;
+  holds = h.holds;
+  told = h.told;
+}
 
 pub no_parts : ArePartsOf [] []
 no_parts = record { some = All-nil _; joined = refl }
@@ -142,12 +161,12 @@ used_all c stage received asks = record { used = received; unused = []; split = 
 pub request_used : (w : WireView) (c : Charter) (stage : Stage) → RequestRow w (Asks c stage) → RequestRow w (Used c stage)
 request_used w c stage r = record { received = r.received; since = r.since; asks = used_all c stage r.received r.asks }
 
-rows_at_end : (e : SessionEnd) (l : LiveView) (stage : Stage) (t : Told l stage) → (IsIdle l.line.start → LineRow l.line [] (hung_up (last_of stage t.given)))
+rows_at_end : (e : SessionEnd) (l : LiveView) (stage : Stage) (t : Told l stage) → PastOf l.line l.charter l.seat l.reports.items (asked_in stage) (hung_up (last_of stage t.given))
     → RequestRow l.wire (AsksAtEnd e l.charter stage) → IsAtEnd e l stage t.given t.parts → BytesRow l.wire (shape_at_end e (text_of stage t.parts)) → TimesAtEnd e l stage → ToldAtEnd e l stage
 rows_at_end e l stage t talks request at bytes times =
     record { given = t.given; parts = t.parts; cut = t.cut; request = request; talks = talks; aim = t.aim; at = at; bytes = bytes; times = times; stays = t.stays }
 
-pub at_end : (e : SessionEnd) (l : LiveView) (stage : Stage) (t : Told l stage) → (IsIdle l.line.start → LineRow l.line [] (hung_up (last_of stage t.given))) → ToldAtEnd e l stage
+pub at_end : (e : SessionEnd) (l : LiveView) (stage : Stage) (t : Told l stage) → PastOf l.line l.charter l.seat l.reports.items (asked_in stage) (hung_up (last_of stage t.given)) → ToldAtEnd e l stage
 at_end (end.Sent code) l stage t talks = rows_at_end (end.Sent code) l stage t talks t.request t.at t.bytes t.times
 at_end (end.Cut cause) l stage t talks = rows_at_end (end.Cut cause) l stage t talks t.request t.at t.bytes t.times
 at_end end.ClientGone l stage t talks = rows_at_end end.ClientGone l stage t talks t.request t.at t.bytes t.times
@@ -181,7 +200,7 @@ module _ (v : LiveView) (w : WireView) (n : ℕ) (stage : Stage) (told : Told v 
     moved = moved_flush v w f h;
     to = record {
       stage = stage;
-      told = at_end e (with_wire v w) stage (now f h) (λ alone. subst (LineRow v.line []) (hangs (now f h).given) ((now f h).talks alone));
+      told = at_end e (with_wire v w) stage (now f h) (subst (PastOf v.line v.charter v.seat v.reports.items (asked_in stage)) (hangs (now f h).given) (now f h).talks);
       says = says;
       why_is = refl;
     };

@@ -30,7 +30,7 @@ use Rattle.gp_exchange.specs.declared.place.Place.TheVariants as place
 use Rattle.gp_exchange.specs.declared.answer.ExchangeFault.{ExchangeFault}
 use Rattle.gp_exchange.specs.declared.answer.Last.TheVariants as last
 use Rattle.gp_session.specs.Wires.{WireView, RequestRow, BytesRow, exactly, Sent, Flushes}
-use Rattle.gp_session.specs.Lines.{LineView, MovedLine, LineRow, Said, Last, idle, speaking, hung}
+use Rattle.gp_session.specs.Lines.{Aim, LineView, MovedLine, LineRow, Said, Last, idle, speaking, hung}
 use Rattle.gp_session.proofs.Moving.{rose_since}
 use Rattle.gp_session_http.specs.declared.asked.Asked.{Asked}
 use Rattle.gp_session_http.specs.declared.asking.Asking.{Asking as AskingStage}
@@ -49,7 +49,7 @@ use Rattle.gp_session_http.specs.declared.passing.Step.{Step}
 use Rattle.gp_session_http.specs.declared.passing.Step.TheVariants as step
 use Rattle.gp_session_http.specs.Moves.{waits, passed, StepsTo, PassedOn, Leads, StepsOn, HasAsked, said, HasHeadOf, IsBegunAt, HasGiven, HasGivenAll, IsCutBy, EndSays, end_by}
 use Rattle.gp_session_http.proofs.Rows.{with_wire, with_line, moved_line, moved_same, moved_again, moved_by_put, moved_unput, moved_flush, no_parts, says_put, says_same, says_again, told_flushed, leads_from}
-use Rattle.gp_session_http.proofs.Answering.{polled, put_on, put_none, over_hung, over_rank}
+use Rattle.gp_session_http.proofs.Talking.{polled, put_on, put_none, over_hung, over_rank}
 
 -- how the text grows
 
@@ -226,25 +226,25 @@ module _ (v : LiveView) (l : LineView) (s : PassingStage) (told : Told v (Passin
   abbrev pub after_poll : PassingStage
   after_poll = record { passed = s.passed; exchange = y }
 
-  pub came : (part : List ℕ) → (LineRow v.line [] (speaking (said s.exchange told.given)) → LineRow l [] (speaking (said y (told.given ++ part))))
+  pub came : (part : List ℕ) → ((aims : List Aim) → LineRow v.line aims (speaking (said s.exchange told.given)) → LineRow l aims (speaking (said y (told.given ++ part))))
       → HasAsked (with_line v l) (asked_of s.passed) y (speaking (said y (told.given ++ part))) (passed_text s.passed told.parts None)
   came part row = polled v l (asked_of s.passed) s.exchange y (speaking (said s.exchange told.given)) (speaking (said y (told.given ++ part))) (passed_text s.passed told.parts None) moved same row (passing_rows v s told)
 
-  pub none_came : (LineRow v.line [] (speaking (said s.exchange told.given)) → LineRow l [] (speaking (said y (told.given ++ []))))
+  pub none_came : ((aims : List Aim) → LineRow v.line aims (speaking (said s.exchange told.given)) → LineRow l aims (speaking (said y (told.given ++ []))))
       → HasAsked (with_line v l) (asked_of s.passed) y (speaking (said y told.given)) (passed_text s.passed told.parts None)
   none_came row = subst (λ (g : List ℕ). HasAsked (with_line v l) (asked_of s.passed) y (speaking (said y g)) (passed_text s.passed told.parts None)) (append-nil told.given) (came [] row)
 
   pub is_passing : rank y.place ≡ 4 → IsPassing s.passed y
   is_passing four = record { reading = four; head = head ∙ told.at.head; on = told.at.on; body = told.at.body }
 
-  pub gave_part : (part : List ℕ) → 0 < length part → rank y.place ≡ 4 → (LineRow v.line [] (speaking (said s.exchange told.given)) → LineRow l [] (speaking (said y (told.given ++ part)))) → HasGiven (with_line v l) after_poll part
+  pub gave_part : (part : List ℕ) → 0 < length part → rank y.place ≡ 4 → ((aims : List Aim) → LineRow v.line aims (speaking (said s.exchange told.given)) → LineRow l aims (speaking (said y (told.given ++ part)))) → HasGiven (with_line v l) after_poll part
   gave_part part some four row = record { given = told.given; parts = told.parts; cut = told.cut; some = some; rows = came part row; at = is_passing four }
 
-  over_rows : (e : ExchangeLast) → IsOverBy e y.place → (LineRow v.line [] (speaking (said s.exchange told.given)) → LineRow l [] (speaking (said y (told.given ++ []))))
+  over_rows : (e : ExchangeLast) → IsOverBy e y.place → ((aims : List Aim) → LineRow v.line aims (speaking (said s.exchange told.given)) → LineRow l aims (speaking (said y (told.given ++ []))))
       → HasAsked (with_line v l) (asked_of s.passed) y (hung (said y told.given)) (passed_text s.passed told.parts None)
   over_rows e over row = over_hung (with_line v l) (asked_of s.passed) y told.given (passed_text s.passed told.parts None) (over_rank e y.place over) (none_came row)
 
-  pub gave_all : IsOverBy last.End y.place → (LineRow v.line [] (speaking (said s.exchange told.given)) → LineRow l [] (speaking (said y (told.given ++ [])))) → HasGivenAll (with_line v l) after_poll
+  pub gave_all : IsOverBy last.End y.place → ((aims : List Aim) → LineRow v.line aims (speaking (said s.exchange told.given)) → LineRow l aims (speaking (said y (told.given ++ [])))) → HasGivenAll (with_line v l) after_poll
   gave_all over row = record {
     given = told.given;
     parts = told.parts;
@@ -256,7 +256,7 @@ module _ (v : LiveView) (l : LineView) (s : PassingStage) (told : Told v (Passin
     body = told.at.body;
   }
 
-  pub cut_short : (f : ExchangeFault) → IsOverBy (last.Fault f) y.place → (LineRow v.line [] (speaking (said s.exchange told.given)) → LineRow l [] (speaking (said y (told.given ++ []))))
+  pub cut_short : (f : ExchangeFault) → IsOverBy (last.Fault f) y.place → ((aims : List Aim) → LineRow v.line aims (speaking (said s.exchange told.given)) → LineRow l aims (speaking (said y (told.given ++ []))))
       → (t : FinishingStage) → t.passed ≡ s.passed → t.exchange.value ≡ y → t.cause ≡ cause.Unrecovered → Leads v (with_line v l) 2 (Go (Finishing t))
   cut_short f over row t whose exchange is = record {
     moved = moved_line v l moved;
@@ -268,12 +268,12 @@ module _ (v : LiveView) (l : LineView) (s : PassingStage) (told : Told v (Passin
     );
   }
 
-  pub goes_on : v.wire.rest ≡ [] → Gives s.exchange.place y.place v.line.dial l.dial NotReady → (LineRow v.line [] (speaking (said s.exchange told.given)) → LineRow l [] (speaking (said y (told.given ++ []))))
+  pub goes_on : v.wire.rest ≡ [] → Gives s.exchange.place y.place v.line.dial l.dial NotReady → ((aims : List Aim) → LineRow v.line aims (speaking (said s.exchange told.given)) → LineRow l aims (speaking (said y (told.given ++ []))))
       → Leads v (with_line v l) 2 (Wait (Passing after_poll))
   goes_on empty g row = passing_waits v l after_poll (moved_line v l moved) empty
       (passing_told (with_line v l) after_poll told.parts told.given told.cut (none_came row) (is_passing (still_reads s.exchange y v.line.dial l.dial told.at.reading g))) g.1
 
-  pub lost : IsOverBy last.NoMemory y.place → (LineRow v.line [] (speaking (said s.exchange told.given)) → LineRow l [] (speaking (said y (told.given ++ [])))) → (ended : Ended) → ended ≡ record { end = end.NoMemory; why = why.Nothing }
+  pub lost : IsOverBy last.NoMemory y.place → ((aims : List Aim) → LineRow v.line aims (speaking (said s.exchange told.given)) → LineRow l aims (speaking (said y (told.given ++ [])))) → (ended : Ended) → ended ≡ record { end = end.NoMemory; why = why.Nothing }
       → Leads v (with_line v l) 2 (End ended)
   lost over row ended is = passing_lost (with_line v l) after_poll told.parts told.given (passed_text s.passed told.parts None) [] 2 v (moved_line v l moved) told.cut (over_rows last.NoMemory over row) (sym (append-nil (passed_text s.passed told.parts None))) ended is
 
@@ -294,7 +294,7 @@ module _ (v : LiveView) (w : WireView) (s : PassingStage) (part : List ℕ) (h :
     refl,
   )
 
-  pub unput_step : w.rest ≡ v.wire.rest → (l : LineView) → MovedLine v.line l → (LineRow v.line [] (speaking (said s.exchange (h.given ++ part))) → LineRow l [] (hung (said s.exchange (h.given ++ part))))
+  pub unput_step : w.rest ≡ v.wire.rest → (l : LineView) → MovedLine v.line l → ((aims : List Aim) → LineRow v.line aims (speaking (said s.exchange (h.given ++ part))) → LineRow l aims (hung (said s.exchange (h.given ++ part))))
       → (ended : Ended) → ended ≡ record { end = end.NoMemory; why = why.Nothing } → Leads v (with_line (with_wire v w) l) 2 (End ended)
   unput_step rest l moved row ended is =
       let x = s.exchange in

@@ -1,7 +1,8 @@
 -- What a session says of its ends once its origin's answer asks for a hold: of a stream, or of a long poll. All is said since the session
 -- began.
 use Rattle.std.specs.Prelude.{◌≡◌, ℕ, List, [], ◌∷◌, ◌++◌, Some, None}
-use Rattle.std.specs.List.{Contains}
+use mathlib.Core.List.{IsPrefix}
+use Rattle.gp_plain.specs.Others.{Share}
 use Rattle.gp_plain.specs.declared.event.HoldSpec.{HoldSpec}
 use Rattle.gp_outside.specs.Counts.{Rose}
 use Rattle.gp_outside.specs.Dials.{DialLater, IsIdle}
@@ -15,13 +16,13 @@ use Rattle.gp_session.specs.Lines.{hung, LineRow}
 use Rattle.gp_session.specs.Seats.{SeatRow}
 use Rattle.gp_session.specs.Watches.{WatchRow}
 use Rattle.gp_session.specs.Wires.{RequestRow, BytesRow, exactly}
-use Rattle.gp_session_hold.specs.Rows.{KeptView, none, holds_of, numbers_of, HoldsRow, EntriesRow, AttachRow}
+use Rattle.gp_session_hold.specs.Rows.{KeptView, none, holds_of, HoldsRow, EntriesRow, AttachRow}
 use Rattle.gp_session_http.specs.declared.asked.Asked.{Asked}
 use Rattle.gp_session_http.specs.declared.leaving.Parting.{Parting}
 use Rattle.gp_session_http.specs.declared.leaving.Parting.TheVariants.{Gone, Wanting}
 use Rattle.gp_session_http.specs.Routing.{IsServed, refusal_text}
 use Rattle.gp_session_http.specs.Asking.{IsAskedFor}
-use Rattle.gp_session_http.specs.Turns.{IsAnswerTo, Turn, Behind, aims_of, specs_before, AreHeld}
+use Rattle.gp_session_http.specs.Turns.{IsAnswerTo, Turn, Behind, aims_of, specs_before, AreHeld, reports_before}
 use Rattle.gp_session_http.specs.Trace.{BeginsWith}
 use Rattle.gp_session_http.specs.Views.{LiveView}
 
@@ -36,6 +37,7 @@ pub record Heard (l : LiveView) (asked : Asked) (x : ExchangeView) (answer : Ans
   pub aim : IsAskedFor l.charter.signer asked x.asked
   pub behind : Behind l.charter turns asked
   pub held : AreHeld l.seat turns
+  pub told : IsPrefix (reports_before turns) l.reports.items
   pub answers : IsAnswerTo asked x content answer
   pub calls : Rose l.watch.start.calls l.watch.clock.calls
   pub times : WatchRow l.watch
@@ -68,9 +70,11 @@ pub record HasAttached (l : LiveView) (turns : List Turn) (Asks : HoldSpec → T
 abbrev pub full_text : List ℕ
 full_text = refusal_text Unavailable []
 
--- the session attached a hold of this number
-abbrev pub HasNumber : LiveView → KeptView → Type 0
-HasNumber l hold = Contains (numbers_of (holds_of l.seat)) hold.number
+-- the last hold of the session has this number
+pub record IsLastHold (l : LiveView) (hold : KeptView) : Type 0 where
+  pub before : List (ℕ × Share)
+  pub share : Share
+  pub all : holds_of l.seat ≡ before ++ (hold.number, share) ∷ []
 
 -- how a session ends that lets its hold go
 abbrev pub end_of : Parting → SessionEnd

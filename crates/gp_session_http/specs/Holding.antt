@@ -39,7 +39,7 @@ use Rattle.gp_session_http.specs.declared.stage.Stage.TheVariants.{Asking}
 use Rattle.gp_session_http.specs.Grants.{IsGrant, AsksFor, stream_head}
 use Rattle.gp_session_http.specs.Turns.{Turn}
 use Rattle.gp_session_http.specs.Trace.{Told}
-use Rattle.gp_session_http.specs.Heard.{Heard, IsUnattached, IsDeclined, HasAttached, HasNumber, full_text, end_of}
+use Rattle.gp_session_http.specs.Heard.{Heard, IsUnattached, IsDeclined, HasAttached, IsLastHold, full_text, end_of}
 use Rattle.gp_session_http.specs.LongPolls.{Polling, PollEnds, BeginningTold, DenyingTold, WaitingTold, AnsweringTold, DepartingTold}
 use Rattle.gp_session_http.specs.Views.{LiveView, Goes}
 
@@ -94,7 +94,7 @@ pub record LeavingTold (l : LiveView) (s : LeavingStage) : Type 0 where
 -- its end was told, and it is reported
 pub record IsClosed (l : LiveView) (turns : List Turn) (g : Grant) (hold : KeptView) (cause : EndCause) : Type 0 where
   pub attached : HasAttached l turns (AsksFor g)
-  pub own : HasNumber l hold
+  pub own : IsLastHold l hold
   pub entries : EntriesRow l.seat
   pub holds : HoldsRow l.seat l.reports.items none
   pub finished : Finished (stream_of g hold) l.wire l.seat cause
@@ -189,7 +189,7 @@ LeftAs Wanting l g hold = LeftInPart l g hold
 -- an end of a hold was told, and memory was wanting for what the last Take gave
 pub record IsUnput (l : LiveView) (turns : List Turn) (g : Grant) (hold : KeptView) (cause : EndCause) : Type 0 where
   pub attached : HasAttached l turns (AsksFor g)
-  pub own : HasNumber l hold
+  pub own : IsLastHold l hold
   pub stopped : Stopped (stream_of g hold) l.wire l.seat (Some cause)
 
 -- why a session ends so: no hold was made, and its refusal was sent, or the client is gone, or memory is wanting; nothing was attached,
@@ -204,9 +204,9 @@ pub data HeldEnds (l : LiveView) (turns : List Turn) (g : Grant) : SessionEnd �
   told_sent : (hold : KeptView) (cause : EndCause) → IsClosed l turns g hold cause → l.wire.rest ≡ [] → HeldEnds l turns g (stream_end g.code cause) why.Nothing
   told_gone : (hold : KeptView) (cause : EndCause) → IsClosed l turns g hold cause → HasFailed l.wire → HeldEnds l turns g ClientGone why.Nothing
   told_wanting : (hold : KeptView) (cause : EndCause) → IsUnput l turns g hold cause → HeldEnds l turns g NoMemory why.Nothing
-  kept_worn : (hold : KeptView) → HasAttached l turns (AsksFor g) → Streams (stream_of g hold) l.wire l.seat → IsWorn l.seat → HeldEnds l turns g Worn why.Nothing
-  leaving_worn : (hold : KeptView) (parting : Parting) → HasAttached l turns (AsksFor g) → LeavesAs parting l (stream_of g hold) → IsWorn l.seat → HeldEnds l turns g Worn why.Nothing
-  let_go : (hold : KeptView) (parting : Parting) → HasAttached l turns (AsksFor g) → DetachedRow l.seat hold.number → LeftAs parting l g hold → HeldEnds l turns g (end_of parting) why.Nothing
+  kept_worn : (hold : KeptView) → HasAttached l turns (AsksFor g) → IsLastHold l hold → Streams (stream_of g hold) l.wire l.seat → IsWorn l.seat → HeldEnds l turns g Worn why.Nothing
+  leaving_worn : (hold : KeptView) (parting : Parting) → HasAttached l turns (AsksFor g) → IsLastHold l hold → LeavesAs parting l (stream_of g hold) → IsWorn l.seat → HeldEnds l turns g Worn why.Nothing
+  let_go : (hold : KeptView) (parting : Parting) → HasAttached l turns (AsksFor g) → IsLastHold l hold → DetachedRow l.seat hold.number → LeftAs parting l g hold → HeldEnds l turns g (end_of parting) why.Nothing
 
 -- the answer asked for a stream, or for a long poll
 pub record StreamFinishes (l : LiveView) (ended : Ended) : Type 0 where

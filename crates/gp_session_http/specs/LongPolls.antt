@@ -31,7 +31,7 @@ use Rattle.gp_session_http.specs.declared.leaving.Parting.{Parting}
 use Rattle.gp_session_http.specs.declared.leaving.Parting.TheVariants.{Gone, Wanting}
 use Rattle.gp_session_http.specs.declared.poll.Poll.{Poll}
 use Rattle.gp_session_http.specs.declared.waiting.Waiting.{Waiting as WaitingStage}
-use Rattle.gp_session_http.specs.Heard.{Heard, IsUnattached, IsDeclined, HasAttached, HasNumber, full_text, end_of}
+use Rattle.gp_session_http.specs.Heard.{Heard, IsUnattached, IsDeclined, HasAttached, IsLastHold, full_text, end_of}
 use Rattle.gp_session_http.specs.Posings.{own_of, IsOpeningOf, kept_for}
 use Rattle.gp_session_http.specs.Turns.{Turn, IsPollSpec}
 use Rattle.gp_session_http.specs.Views.{LiveView}
@@ -89,7 +89,7 @@ pub record WaitingTold (l : LiveView) (s : WaitingStage) : Type 0 where
 pub record PollIs (l : LiveView) (turns : List Turn) (p : Poll) (hold : KeptView) (Is : WaitView → Type 0) : Type 0 where
   pub moment : ℕ
   pub attached : HasAttached l turns (PollsFor p moment)
-  pub own : HasNumber l hold
+  pub own : IsLastHold l hold
   pub entries : EntriesRow l.seat
   pub holds : HoldsRow l.seat l.reports.items none
   pub wait : WaitView
@@ -134,8 +134,8 @@ pub data PollEnds (l : LiveView) (turns : List Turn) (p : Poll) : SessionEnd →
   unput : (hold : KeptView) (cause : EndCause) → PollIs l turns p hold (λ (v : WaitView). IsUnput v l.wire l.seat hold cause) → PollEnds l turns p NoMemory why.Nothing
   overflowed : (hold : KeptView) → PollIs l turns p hold (λ (v : WaitView). IsOverflowed v l.wire l.seat hold) → l.wire.rest ≡ [] → PollEnds l turns p (Cut Overflow) why.Nothing
   unrepeated : (r : Repeat) → PollIs l turns p r.hold (λ (v : WaitView). IsRetried v l.wire l.seat r) → PollEnds l turns p NoMemory why.Nothing
-  waiting_worn : (now : ℕ) (hold : KeptView) → HasAttached l turns (PollsFor p now) → StillPolls l hold → IsWorn l.seat → PollEnds l turns p Worn why.Nothing
-  departed : (now : ℕ) (hold : KeptView) (parting : Parting) (share : Share) → HasAttached l turns (PollsFor p now) → DetachedRow l.seat hold.number → IsOver l.seat hold None share → Sent l.wire [] → PartsBy parting l
+  waiting_worn : (now : ℕ) (hold : KeptView) → HasAttached l turns (PollsFor p now) → IsLastHold l hold → StillPolls l hold → IsWorn l.seat → PollEnds l turns p Worn why.Nothing
+  departed : (now : ℕ) (hold : KeptView) (parting : Parting) (share : Share) → HasAttached l turns (PollsFor p now) → IsLastHold l hold → DetachedRow l.seat hold.number → IsOver l.seat hold None share → Sent l.wire [] → PartsBy parting l
       → PollEnds l turns p (end_of parting) why.Nothing
 
 -- the moment at which a hold is attached is that of the poll

@@ -37,7 +37,8 @@ use Rattle.gp_session_http.specs.declared.gathering.Gathered.{Gathered}
 use Rattle.gp_session_http.specs.declared.gathering.Gathered.TheVariants as gathered
 use Rattle.gp_instruct_json.specs.Answers.{IsAnswer}
 use Rattle.gp_instruct_json.specs.declared.answer.Answer.{Answer}
-use Rattle.gp_session_http.specs.Asking.{IsAskedFor, HasGatheredHead, FailsBy}
+use Rattle.gp_plain.specs.declared.http.Signer.{Signer}
+use Rattle.gp_session_http.specs.Asking.{IsAskedFor, BeginsFor, HasGatheredHead, FailsBy}
 use Rattle.gp_session_http.specs.Routing.{Charter, IsRefusedFor, IsServed, refusal_of, why_of}
 use Rattle.gp_session_http.specs.Passing.{ArePartsOf, asked_of, origin_head, has_no_body, IsPassedOn, passed_text, head_by}
 use Rattle.gp_session_http.specs.Views.{LiveView, Moved, SaysMore}
@@ -308,6 +309,11 @@ said x given = record { exchange = x; given = given }
 -- nothing was said to the client
 abbrev pub IsSpeakingAt : LiveView → AskingStage → Type 0
 IsSpeakingAt l s = HasAsked l s.asked s.exchange (speaking (said s.exchange [])) []
+
+-- it begins to be asked
+pub record IsBegunWith (signer : Signer) (asked : Asked) (s : AskingStage) : Type 0 where
+  pub asked_is : s.asked ≡ asked
+  pub begins : BeginsFor signer s.asked s.exchange
 
 -- this head was given
 pub record HasHeadOf (x : ExchangeView) (head : Response) : Type 0 where

@@ -2,6 +2,7 @@
 -- that the request is repeated.
 use Rattle.std.specs.Prelude.{ℕ, ◌≡◌, ◌+◌, ◌≤◌, Bool, true, List, [], ◌∷◌, ◌++◌, map, Option, Some, None, ⊤}
 use Rattle.gp_plain.specs.Others.{Share}
+use Rattle.gp_plain.specs.Reports.{report}
 use Rattle.gp_plain.specs.declared.event.HoldSpec.{HoldSpec}
 use Rattle.gp_plain.specs.declared.event.HoldSpec.TheVariants.{Response as ResponseSpec}
 use Rattle.gp_plain.specs.declared.http.Response.{Response}
@@ -88,6 +89,10 @@ aims_of turns = map (λ (turn : Turn). aim_of turn.exchange.asked) turns
 abbrev pub specs_before : List Turn → List HoldSpec
 specs_before turns = map (λ (turn : Turn). turn.share.spec) turns
 
+-- and reported so
+abbrev pub reports_before : List Turn → List HoldReport
+reports_before turns = map (λ (turn : Turn). report turn.number turn.share) turns
+
 -- their holds are the session's, and each is as it was when its end was told
 abbrev pub AreHeld : SeatView → List Turn → Type 0
 AreHeld s [] = ⊤
@@ -109,6 +114,7 @@ pub record Past (l : LineView) (c : Charter) (s : SeatView) (reports : List Hold
   pub entries : EntriesRow s
   pub attaches : AttachRow s (specs_before turns) None
   pub holds : HoldsRow s reports none
+  pub told : reports ≡ reports_before turns
 
 abbrev pub PastOf : LineView → Charter → SeatView → List HoldReport → Option Asked → Last → Type 0
 PastOf l c s reports None last = Fresh l s reports

@@ -95,7 +95,7 @@ fn lasts_of(alloc: Global, last: &Option<Last>) -> Result<Vec<Body>, AllocError>
 {
     match last {
         None => Ok(Vec::new(alloc)),
-        Some(last) => vec![in alloc; last_text(alloc, last)?],
+        Some(last) => Ok(vec![in alloc; last_text(alloc, last)?]?),
     }
 }
 

@@ -1,8 +1,8 @@
 //! A session that expects the head of the origin's response.
-ghost use Rattle.std.specs.Prelude.{◌≡◌};
+ghost use Rattle.std.specs.Prelude.{◌≡◌, IfOk};
 ghost use Rattle.gp_session_http.specs.Trace.{Told};
-ghost use Rattle.gp_session_http.specs.Moves.{IsAnsweredAt, IsBegunAt, IsFailedAt, IsSpeakingAt, Leads};
-ghost use Rattle.gp_session_http.specs.Asking.{IsGathered, IsPassed, why_failed};
+ghost use Rattle.gp_session_http.specs.Moves.{IsAnsweredAt, IsBegunAt, IsBegunWith, IsFailedAt, IsSpeakingAt, Leads};
+ghost use Rattle.gp_session_http.specs.Asking.{IsAskable, IsGathered, IsPassed, why_failed};
 ghost use Rattle.gp_session_http.specs.declared.stage.Stage.TheVariants as stage;
 
 use crate::asked::Asked;
@@ -17,7 +17,8 @@ use gp_answer::Refusal;
 use gp_exchange::{Exchange, ExchangeFault, Progress};
 use gp_hub::{SessionEnd, Why};
 use gp_outside::{Clock, Dial, Link};
-use gp_plain::{Body, EndCause, Response};
+use gp_plain::{Body, EndCause, Response, Signer};
+use std::alloc::{AllocError, Global};
 use std::snapshot::Snapshot;
 
 /// Expects the head of the response to what was asked.
@@ -41,6 +42,15 @@ pub(crate) fn why_failed(fault: ExchangeFault) -> Why
 }
 
 impl Asking {
+    /// Begins to ask.
+    pub(crate) fn new(alloc: Global, signer: &Signer, asked: Asked) -> Result<Asking, AllocError>
+        requires { IsAskable asked }
+        ensures { IfOk result (IsBegunWith signer.now asked) }
+    {
+        let exchange = asked.begin(alloc, signer)?;
+        Ok(Asking { asked, exchange })
+    }
+
     /// Goes on with the talk, up to the head of the response.
     pub(crate) fn advance<'h, L: Link, D: Dial, C: Clock>(
         mut self,

@@ -63,8 +63,8 @@ fn ask<'h, L: Link, D: Dial, C: Clock>(
         repeats: 0,
         last: None,
     };
-    match asked.begin(live.alloc, live.signer) {
-        Ok(exchange) => Next::Go(Stage::Asking(Asking { asked, exchange })),
+    match Asking::new(live.alloc, live.signer, asked) {
+        Ok(stage) => Next::Go(Stage::Asking(stage)),
         Err(_) => Next::End(end_with(SessionEnd::NoMemory)),
     }
 }

@@ -155,8 +155,8 @@ fn repeat<'h, L: Link, D: Dial, C: Clock>(
     let Some(asked) = asked_again(again, last, count, moment) else {
         unreachable!()
     };
-    match asked.begin(live.alloc, live.signer) {
-        Ok(exchange) => HeldNext::Again(Asking { asked, exchange }),
+    match Asking::new(live.alloc, live.signer, asked) {
+        Ok(stage) => HeldNext::Again(stage),
         Err(_) => HeldNext::End(end_with(SessionEnd::NoMemory)),
     }
 }

@@ -1,14 +1,16 @@
-use Rattle.std.proofs.Common.{sym, refl, subst}
+use Rattle.std.proofs.Common.{◌∙◌, sym, refl, ap, subst, None}
+use Rattle.gp_session_http.specs.declared.asked.Asked.{Asked}
 use Rattle.gp_session_http.specs.Views.{LiveView}
 use Rattle.gp_session_http.specs.Moves.{IsServedAt}
 use Rattle.gp_session_http.proofs.Rows.{from_live, leads_is}
-use Rattle.gp_session_http.proofs.Answering.{askable, begins, unasked_end}
+use Rattle.gp_session_http.proofs.Talking.{askable, begins, unasked_end}
 use Rattle.gp_session_http.proofs.reading_body.ask.Goals as goal
 use Rattle.gp_session_http.proofs.reading_body.ask.Goals.{in-Ok, in-Err}
 
-pub begin-requires : goal.begin-requires
-begin-requires g c =
-    askable c.forward_law.ensures c.args.live.now c.args.request c.args.address c.requires.told (record { request = c.args.request; address = c.args.address; moment = c.moment-moment.result }) refl refl
+pub new-requires : goal.new-requires
+new-requires g c =
+    let asked : Asked = record { request = c.args.request; address = c.args.address; moment = c.moment-moment.result; repeats = 0; last = None } in
+    askable c.forward_law.ensures c.args.live.now.charter.rules c.requires.told.request.received asked c.requires.told.request.asks
 
 pub returns : goal.returns
 returns g c =
@@ -16,9 +18,10 @@ returns g c =
     let told : IsServedAt v c.args.request c.args.address = subst (λ (x : LiveView). IsServedAt x c.args.request c.args.address) (sym c.live.view_is) c.requires.told in
     let e = c.moment-moment.ensures in
     record {
-      leads = from_live v c.args.live.now _ 4 _ c.live.view_is (elim c.match-begin.branch [
-        | in-Ok w ↦ leads_is v _ 4 _ _ w.result-is (begins v c.moment-moment.new.self c.args.request c.args.address told c.moment-moment.result e.uses e.row
-            (record { asked = record { request = c.args.request; address = c.args.address; moment = c.moment-moment.result }; exchange = w.in-Ok.exchange }) refl refl refl w.in-Ok.ensures)
+      leads = from_live v c.args.live.now _ 4 _ c.live.view_is (elim c.match-new.branch [
+        | in-Ok w ↦ leads_is v _ 4 _ _ w.result-is (begins v c.moment-moment.new.self c.args.request c.args.address told c.moment-moment.result e.uses e.row w.in-Ok.stage
+            (ap (λ (a : Asked). a.request) w.in-Ok.ensures.asked_is) (ap (λ (a : Asked). a.address) w.in-Ok.ensures.asked_is) (ap (λ (a : Asked). a.moment) w.in-Ok.ensures.asked_is) (ap (λ (a : Asked). a.repeats) w.in-Ok.ensures.asked_is)
+            (ap (λ (a : Asked). a.last) w.in-Ok.ensures.asked_is) w.in-Ok.ensures.begins)
         | in-Err w ↦ leads_is v _ 4 _ _ w.result-is (unasked_end v c.moment-moment.new.self c.args.request c.args.address told c.moment-moment.result e.uses w.end_with.result w.end_with.ensures)
       ]);
     }

@@ -4,7 +4,7 @@ use Rattle.gp_session_http.specs.Asking.{is_head, IsGathered, IsInstructRefused,
 use Rattle.gp_session_http.specs.Views.{LiveView}
 use Rattle.gp_session_http.specs.Moves.{IsAnsweredAt, said}
 use Rattle.gp_session_http.proofs.Rows.{from_live, leads_from, with_line, moved_line, no_parts}
-use Rattle.gp_session_http.proofs.Answering.{polled}
+use Rattle.gp_session_http.proofs.Talking.{polled}
 use Rattle.gp_session_http.proofs.asking.Asking.answered.Goals as goal
 
 pub pass-requires-clause-passed : goal.pass-requires-clause-passed
@@ -26,7 +26,7 @@ fail-requires g c =
         given = [];
         parts = [];
         cut = no_parts;
-        rows = polled v l s.asked s.exchange s.exchange (speaking (said s.exchange [])) (hung (said s.exchange [])) [] e.moved refl (e.row [] []) told.rows;
+        rows = polled v l s.asked s.exchange s.exchange (speaking (said s.exchange [])) (hung (said s.exchange [])) [] e.moved refl (λ aims. e.row aims []) told.rows;
         fails = inl (record { head = c.args.head; given = told.has.head_is; get = refused.0; refused = refused.1 });
       };
     }

@@ -5,7 +5,7 @@ use Rattle.gp_session_http.specs.Passing.{head_by}
 use Rattle.gp_session_http.specs.Views.{LiveView}
 use Rattle.gp_session_http.specs.Moves.{IsBegunAt, said}
 use Rattle.gp_session_http.proofs.Rows.{from_live, with_line, moved_line, moved_same}
-use Rattle.gp_session_http.proofs.Answering.{polled}
+use Rattle.gp_session_http.proofs.Talking.{polled}
 use Rattle.gp_session_http.proofs.Sending.{passes_body, passes_none}
 use Rattle.gp_session_http.proofs.asking.Asking.begin.Goals as goal
 
@@ -19,7 +19,7 @@ returns-then-is_bare_by g c =
     let e = c.hang_up.ensures in
     let p = c.passed-passed.result in
     let pe = c.passed-passed.ensures in
-    let rows = polled v l s.asked s.exchange s.exchange (speaking (said s.exchange [])) (hung (said s.exchange [])) (head_by s.asked head c.args.status) e.moved refl (e.row [] []) told.rows in
+    let rows = polled v l s.asked s.exchange s.exchange (speaking (said s.exchange [])) (hung (said s.exchange [])) (head_by s.asked head c.args.status) e.moved refl (λ aims. e.row aims []) told.rows in
     record {
       leads = from_live v c.args.live.now _ 3 _ c.live.view_is (record {
         moved = moved_line v l e.moved;

@@ -4,7 +4,7 @@ use Rattle.gp_session_http.specs.Views.{LiveView}
 use Rattle.gp_session_http.specs.Moves.{IsFailedAt}
 use Rattle.gp_session_http.proofs.Rows.{from_live, leads_is}
 use Rattle.gp_session_http.proofs.Putting.{put_text}
-use Rattle.gp_session_http.proofs.Answering.{failed_go, failed_end}
+use Rattle.gp_session_http.proofs.Talking.{failed_go, failed_end}
 use Rattle.gp_session_http.proofs.asking.Asking.fail.Goals as goal
 use Rattle.gp_session_http.proofs.asking.Asking.fail.Goals.{in-Ok, in-Err}
 

@@ -4,7 +4,7 @@ use Rattle.gp_session_http.specs.Passing.{head_by}
 use Rattle.gp_session_http.specs.Views.{LiveView}
 use Rattle.gp_session_http.specs.Moves.{IsAnsweredAt, said}
 use Rattle.gp_session_http.proofs.Rows.{from_live, leads_from, moved_by_put, moved_unput}
-use Rattle.gp_session_http.proofs.Answering.{put_on, put_none, put_head}
+use Rattle.gp_session_http.proofs.Talking.{put_on, put_none, put_head}
 use Rattle.gp_session_http.proofs.asking.Asking.pass.Goals as goal
 
 pub begin-requires-clause-told : goal.begin-requires-clause-told

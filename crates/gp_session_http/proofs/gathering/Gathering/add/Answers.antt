@@ -14,7 +14,7 @@ fail-requires g c =
     let s = c.args.self in
     let h : HasCome v s c.args.part = subst (λ (x : LiveView). HasCome x s c.args.part) (sym c.live.view_is) c.requires.told in
     let e = c.hang_up.ensures in
-    record { told = too_long v s c.args.part h c.hang_up.new.self e.moved (e.row [] (s.content ++ c.args.part)) (lt_by _ _ (sym c.is_too_long.ensures ∙ c.if-is_too_long.true)) }
+    record { told = too_long v s c.args.part h c.hang_up.new.self e.moved (λ aims. e.row aims (s.content ++ c.args.part)) (lt_by _ _ (sym c.is_too_long.ensures ∙ c.if-is_too_long.true)) }
 
 pub returns-then-is_too_long : goal.returns-then-is_too_long
 returns-then-is_too_long g c =

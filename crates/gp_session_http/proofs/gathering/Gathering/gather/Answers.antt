@@ -11,7 +11,7 @@ add-requires g c =
     let s = c.args.self in
     let told = told_live v c.args.live.now (stage.Gathering s) c.live.view_is c.requires.told in
     let e = c.in-Part.ensures in
-    record { told = gather_part v c.poll.new.self s told c.poll.new.exchange e.moved e.asked e.heads c.in-Part.part e.gives.0 e.gives.2 (e.row [] s.content) }
+    record { told = gather_part v c.poll.new.self s told c.poll.new.exchange e.moved e.asked e.heads c.in-Part.part e.gives.0 e.gives.2 (λ aims. e.row aims s.content) }
 
 pub returns-in-Part : goal.returns-in-Part
 returns-in-Part g c =
@@ -24,7 +24,7 @@ read-requires g c =
     let s = c.args.self in
     let told = told_live v c.args.live.now (stage.Gathering s) c.live.view_is c.requires.told in
     let e = c.in-End.ensures in
-    record { told = gather_all v c.poll.new.self s told c.poll.new.exchange e.moved e.asked e.heads e.gives.1 (e.row [] s.content) }
+    record { told = gather_all v c.poll.new.self s told c.poll.new.exchange e.moved e.asked e.heads e.gives.1 (λ aims. e.row aims s.content) }
 
 pub returns-in-End : goal.returns-in-End
 returns-in-End g c =
@@ -37,7 +37,7 @@ fail-requires g c =
     let s = c.args.self in
     let told = told_live v c.args.live.now (stage.Gathering s) c.live.view_is c.requires.told in
     let e = c.in-Fault.ensures in
-    record { told = gather_fault v c.poll.new.self s told c.poll.new.exchange e.moved e.asked e.heads c.in-Fault.fault c.why_failed.result c.why_failed.ensures e.gives (e.row [] s.content) }
+    record { told = gather_fault v c.poll.new.self s told c.poll.new.exchange e.moved e.asked e.heads c.in-Fault.fault c.why_failed.result c.why_failed.ensures e.gives (λ aims. e.row aims s.content) }
 
 pub returns-in-Fault : goal.returns-in-Fault
 returns-in-Fault g c =
@@ -50,7 +50,7 @@ returns-in-NotReady g c =
     let s = c.args.self in
     let told = told_live v c.args.live.now (stage.Gathering s) c.live.view_is c.requires.told in
     let e = c.in-NotReady.ensures in
-    record { gathers = from_live v c.args.live.now _ 2 _ c.live.view_is (gather_waits v c.poll.new.self s told c.poll.new.exchange e.moved e.asked e.heads e.gives (e.row [] s.content)) }
+    record { gathers = from_live v c.args.live.now _ 2 _ c.live.view_is (gather_waits v c.poll.new.self s told c.poll.new.exchange e.moved e.asked e.heads e.gives (λ aims. e.row aims s.content)) }
 
 pub returns-in-NoMemory : goal.returns-in-NoMemory
 returns-in-NoMemory g c =
@@ -58,4 +58,4 @@ returns-in-NoMemory g c =
     let s = c.args.self in
     let told = told_live v c.args.live.now (stage.Gathering s) c.live.view_is c.requires.told in
     let e = c.in-NoMemory.ensures in
-    record { gathers = from_live v c.args.live.now _ 2 _ c.live.view_is (gather_wants v c.poll.new.self s told c.poll.new.exchange e.moved e.asked e.heads e.gives (e.row [] s.content) c.end_with.result c.end_with.ensures) }
+    record { gathers = from_live v c.args.live.now _ 2 _ c.live.view_is (gather_wants v c.poll.new.self s told c.poll.new.exchange e.moved e.asked e.heads e.gives (λ aims. e.row aims s.content) c.end_with.result c.end_with.ensures) }

@@ -15,5 +15,5 @@ returns g c =
     let h : HasCome v s c.args.part = subst (λ (x : LiveView). HasCome x s c.args.part) (sym c.live.view_is) c.requires.told in
     record {
       gathers = from_live v c.args.live.now _ 2 _ c.live.view_is
-          (unkept v s c.args.part h c.hang_up.new.self c.hang_up.ensures.moved (c.hang_up.ensures.row [] (s.content ++ c.args.part)) c.end_with.result c.end_with.ensures);
+          (unkept v s c.args.part h c.hang_up.new.self c.hang_up.ensures.moved (λ aims. c.hang_up.ensures.row aims (s.content ++ c.args.part)) c.end_with.result c.end_with.ensures);
     }

@@ -26,7 +26,7 @@ returns-in-Gone g c =
     let s = c.args.self in
     let h : LeavingTold v s = subst (λ (x : LiveView). LeavingTold x s) (sym c.live.view_is) c.requires.told in
     let e = c.in-Gone.ensures in
-    record { leads = held_live v c.args.live.now _ 1 _ c.live.view_is (held_from v (with_held v v.wire v.watch c.let_go.new.seat v.reports) _ 1 1 _ (gone_went v s h c.let_go.new.seat e.moved e.row) (omega arith) c.report.ensures.leads) }
+    record { leads = held_live v c.args.live.now _ 1 _ c.live.view_is (held_from v (with_held v v.wire v.watch c.let_go.new.seat v.reports) _ 1 1 _ (gone_went v s h c.let_go.new.seat e.moved e.row) refl (omega arith) c.report.ensures.leads) }
 
 pub returns-in-Busy : goal.returns-in-Busy
 returns-in-Busy g c =
@@ -50,4 +50,4 @@ returns-in-Worn g c =
     let s = c.args.self in
     let h : LeavingTold v s = subst (λ (x : LiveView). LeavingTold x s) (sym c.live.view_is) c.requires.told in
     let e = c.in-Worn.ensures in
-    record { leads = held_live v c.args.live.now _ 1 _ c.live.view_is (held_from v (with_held v v.wire v.watch c.let_go.new.seat v.reports) _ 1 1 _ (gone_went v s h c.let_go.new.seat e.moved e.row) (omega arith) c.report-in-Worn.ensures.leads) }
+    record { leads = held_live v c.args.live.now _ 1 _ c.live.view_is (held_from v (with_held v v.wire v.watch c.let_go.new.seat v.reports) _ 1 1 _ (gone_went v s h c.let_go.new.seat e.moved e.row) refl (omega arith) c.report-in-Worn.ensures.leads) }

@@ -2,7 +2,7 @@ use Rattle.std.proofs.Common.{◌++◌, ◌∙◌, sym, ap, subst, List, ℕ}
 use Rattle.gp_session_http.specs.Views.{LiveView}
 use Rattle.gp_session_http.specs.Moves.{HasGivenAll}
 use Rattle.gp_session_http.proofs.Rows.{from_live, leads_is}
-use Rattle.gp_session_http.proofs.Answering.{put_last}
+use Rattle.gp_session_http.proofs.Talking.{put_last}
 use Rattle.gp_session_http.proofs.Sending.{ended_whole, unended}
 use Rattle.gp_session_http.proofs.passing.Passing.finish.Goals as goal
 use Rattle.gp_session_http.proofs.passing.Passing.finish.Goals.{in-Ok, in-Err}

@@ -7,7 +7,7 @@ use Rattle.gp_session_http.specs.Views.{LiveView}
 use Rattle.gp_session_http.specs.Moves.{said, HasGiven, HasGivenAll}
 use Rattle.std.proofs.Common.{None}
 use Rattle.gp_session_http.proofs.Rows.{told_live, from_live, with_wire, with_line, moved_flush, moved_line, moved_again, told_flushed, says_flushed}
-use Rattle.gp_session_http.proofs.Answering.{polled, flushed_on}
+use Rattle.gp_session_http.proofs.Talking.{polled, flushed_on}
 use Rattle.gp_session_http.proofs.Sending.{steps_live, steps_from, passing_rows, passing_full, passing_gone}
 use Rattle.gp_session_http.proofs.passing.Passing.pass.Goals as goal
 
@@ -43,6 +43,6 @@ returns-in-Failed g c =
     let x = s.exchange in
     let text = passed_text s.passed told.parts None in
     let moved = moved_again v (with_wire v w) (with_line (with_wire v w) l) (moved_flush v w flushed.Failed c.in-Failed.ensures) (moved_line (with_wire v w) l e.moved) in
-    let rows = polled (with_wire v w) l (asked_of s.passed) x x (speaking (said x told.given)) (hung (said x told.given)) text e.moved refl (e.row [] told.given)
+    let rows = polled (with_wire v w) l (asked_of s.passed) x x (speaking (said x told.given)) (hung (said x told.given)) text e.moved refl (λ aims. e.row aims told.given)
     (flushed_on v w flushed.Failed c.in-Failed.ensures (asked_of s.passed) x (speaking (said x told.given)) text (passing_rows v s told)) in
     record { steps = from_live v c.args.live.now _ 2 _ c.live.view_is (passing_gone v w l s told c.in-Failed.ensures moved rows c.end_with.result c.end_with.ensures) }

@@ -19,6 +19,6 @@ returns g c =
       steps = steps_live v c.args.live.now to chunked c.match-put_part.result c.live.view_is (elim c.match-put_part.branch [
         | in-Ok w ↦ steps_is v to chunked _ _ w.result-is (steps_at v _ to chunked (step.Part s) w.live-is (put_step v c.put_part.new.wire s c.args.part h e.start e.link w.in-Ok.ensures.ok))
         | in-Err w ↦ steps_is v to chunked _ _ w.result-is (steps_at v _ to chunked (step.Next (End w.end_with.result)) w.live-is
-            (unput_step v c.put_part.new.wire s c.args.part h e.start e.link w.in-Err.ensures.err w.hang_up.new.self w.hang_up.ensures.moved (w.hang_up.ensures.row [] (h.given ++ c.args.part)) w.end_with.result w.end_with.ensures))
+            (unput_step v c.put_part.new.wire s c.args.part h e.start e.link w.in-Err.ensures.err w.hang_up.new.self w.hang_up.ensures.moved (λ aims. w.hang_up.ensures.row aims (h.given ++ c.args.part)) w.end_with.result w.end_with.ensures))
       ]);
     }

@@ -17,7 +17,7 @@ put-requires g c =
     let l = c.poll.new.self in
     let y = c.poll.new.exchange in
     let e = c.in-Part.ensures in
-    record { told = gave_part v l s told y e.moved e.asked e.heads c.in-Part.part e.gives.0 e.gives.2 (e.row [] told.given) }
+    record { told = gave_part v l s told y e.moved e.asked e.heads c.in-Part.part e.gives.0 e.gives.2 (λ aims. e.row aims told.given) }
 
 pub returns-in-Part : goal.returns-in-Part
 returns-in-Part g c =
@@ -37,7 +37,7 @@ finish-requires g c =
     let l = c.poll.new.self in
     let y = c.poll.new.exchange in
     let e = c.in-End.ensures in
-    record { told = gave_all v l s told y e.moved e.asked e.heads e.gives.1 (e.row [] told.given) }
+    record { told = gave_all v l s told y e.moved e.asked e.heads e.gives.1 (λ aims. e.row aims told.given) }
 
 pub returns-in-End : goal.returns-in-End
 returns-in-End g c =
@@ -59,7 +59,7 @@ returns-in-Fault g c =
     let e = c.in-Fault.ensures in
     record {
       steps = from_live v c.args.live.now _ 2 _ c.live.view_is
-          (cut_short v l s told y e.moved e.asked e.heads c.in-Fault.field-0 e.gives.0 (e.row [] told.given) c.over-finishing.result c.over-finishing.ensures.passed c.over-finishing.ensures.exchange c.over-finishing.ensures.cause);
+          (cut_short v l s told y e.moved e.asked e.heads c.in-Fault.field-0 e.gives.0 (λ aims. e.row aims told.given) c.over-finishing.result c.over-finishing.ensures.passed c.over-finishing.ensures.exchange c.over-finishing.ensures.cause);
     }
 
 pub returns-in-NotReady : goal.returns-in-NotReady
@@ -70,7 +70,7 @@ returns-in-NotReady g c =
     let l = c.poll.new.self in
     let y = c.poll.new.exchange in
     let e = c.in-NotReady.ensures in
-    record { steps = from_live v c.args.live.now _ 2 _ c.live.view_is (goes_on v l s told y e.moved e.asked e.heads (ap (λ (x : LiveView). x.wire.rest) c.live.view_is ∙ c.requires.empty) e.gives (e.row [] told.given)) }
+    record { steps = from_live v c.args.live.now _ 2 _ c.live.view_is (goes_on v l s told y e.moved e.asked e.heads (ap (λ (x : LiveView). x.wire.rest) c.live.view_is ∙ c.requires.empty) e.gives (λ aims. e.row aims told.given)) }
 
 pub returns-in-NoMemory : goal.returns-in-NoMemory
 returns-in-NoMemory g c =
@@ -80,4 +80,4 @@ returns-in-NoMemory g c =
     let l = c.poll.new.self in
     let y = c.poll.new.exchange in
     let e = c.in-NoMemory.ensures in
-    record { steps = from_live v c.args.live.now _ 2 _ c.live.view_is (lost v l s told y e.moved e.asked e.heads e.gives (e.row [] told.given) c.end_with.result c.end_with.ensures) }
+    record { steps = from_live v c.args.live.now _ 2 _ c.live.view_is (lost v l s told y e.moved e.asked e.heads e.gives (λ aims. e.row aims told.given) c.end_with.result c.end_with.ensures) }

@@ -26,7 +26,7 @@ returns-in-Ended g c =
     let s = c.args.self in
     let h : StreamingTold v s = subst (λ (x : LiveView). StreamingTold x s) (sym c.live.view_is) c.requires.told in
     let went = stream_went v s h c.moment-now.new.self c.moment-now.result c.moment-now.ensures.uses c.moment-now.ensures.row c.poll.new.self c.poll.new.wire c.poll.new.seat (polled.Ended c.in-Ended.cause) c.in-Ended.ensures in
-    record { leads = held_live v c.args.live.now _ 2 _ c.live.view_is (held_from v (with_held v c.poll.new.wire c.moment-now.new.self c.poll.new.seat v.reports) _ 2 2 _ went (omega arith) c.close.ensures.leads) }
+    record { leads = held_live v c.args.live.now _ 2 _ c.live.view_is (held_from v (with_held v c.poll.new.wire c.moment-now.new.self c.poll.new.seat v.reports) _ 2 2 _ went refl (omega arith) c.close.ensures.leads) }
 
 pub returns-in-Gone : goal.returns-in-Gone
 returns-in-Gone g c =
@@ -48,7 +48,7 @@ returns-in-Worn g c =
     let s = c.args.self in
     let h : StreamingTold v s = subst (λ (x : LiveView). StreamingTold x s) (sym c.live.view_is) c.requires.told in
     let went = stream_went v s h c.moment-now.new.self c.moment-now.result c.moment-now.ensures.uses c.moment-now.ensures.row c.poll.new.self c.poll.new.wire c.poll.new.seat polled.Worn c.in-Worn.ensures in
-    record { leads = held_live v c.args.live.now _ 2 _ c.live.view_is (held_from v (with_held v c.poll.new.wire c.moment-now.new.self c.poll.new.seat v.reports) _ 2 2 _ went (omega arith) c.stop.ensures.leads) }
+    record { leads = held_live v c.args.live.now _ 2 _ c.live.view_is (held_from v (with_held v c.poll.new.wire c.moment-now.new.self c.poll.new.seat v.reports) _ 2 2 _ went refl (omega arith) c.stop.ensures.leads) }
 
 pub returns-in-NoMemory : goal.returns-in-NoMemory
 returns-in-NoMemory g c =
@@ -77,4 +77,4 @@ returns-in-Unput-Some g c =
     let s = c.args.self in
     let h : StreamingTold v s = subst (λ (x : LiveView). StreamingTold x s) (sym c.live.view_is) c.requires.told in
     let went = stream_went v s h c.moment-now.new.self c.moment-now.result c.moment-now.ensures.uses c.moment-now.ensures.row c.poll.new.self c.poll.new.wire c.poll.new.seat (polled.Unput (Some c.in-Unput-Some.cause)) (rw c.in-Unput-Some.field-0-is at c.in-Unput-Some.ensures) in
-    record { leads = held_live v c.args.live.now _ 2 _ c.live.view_is (held_from v (with_held v c.poll.new.wire c.moment-now.new.self c.poll.new.seat v.reports) _ 2 2 _ went (omega arith) c.stop-in-Unput-Some.ensures.leads) }
+    record { leads = held_live v c.args.live.now _ 2 _ c.live.view_is (held_from v (with_held v c.poll.new.wire c.moment-now.new.self c.poll.new.seat v.reports) _ 2 2 _ went refl (omega arith) c.stop-in-Unput-Some.ensures.leads) }

@@ -26,7 +26,7 @@ use Rattle.gp_exchange.specs.declared.place.Place.{Place}
 use Rattle.gp_exchange.specs.declared.place.Place.TheVariants as place
 use Rattle.gp_outbox.specs.declared.outbox.Flushed.{Flushed}
 use Rattle.gp_session.specs.Wires.{WireView, RequestRow, BytesRow, exactly, Sent, Flushes}
-use Rattle.gp_session.specs.Lines.{LineView, MovedLine, LineRow, Said, Last, idle, speaking, hung}
+use Rattle.gp_session.specs.Lines.{Aim, LineView, MovedLine, LineRow, Said, Last, idle, speaking, hung}
 use Rattle.gp_session.specs.Watches.{WatchView, WatchRow, MovedWatch, Uses, Asks as AsksClock}
 use Rattle.gp_session.proofs.Lining.{begins_talk, is_hung}
 use Rattle.gp_session.proofs.Moving.{request_same, sent_same, sent_put, sent_flushed, moved_put, moved_flushed}
@@ -38,22 +38,28 @@ use Rattle.gp_session_http.specs.declared.stage.Stage.TheVariants.{ReadingHead, 
 use Rattle.gp_session_http.specs.declared.stage.Ended.{Ended}
 use Rattle.gp_session_http.specs.declared.stage.Next.TheVariants.{Go, Wait, End}
 use Rattle.gp_answer.specs.declared.refusal.Refusal.TheVariants.{BadGateway}
-use Rattle.gp_session_http.specs.Routing.{IsRouted, IsServed, refusal_text}
+use Rattle.gp_session_http.specs.Routing.{Charter, IsServed, refusal_text}
 use Rattle.gp_session_http.specs.Asking.{IsAskedFor, BeginsFor, IsAskable, ExpectsHead, IsUnpassed, FailsBy, why_failed}
 use Rattle.gp_session_http.specs.Views.{LiveView, Moved}
-use Rattle.gp_session_http.specs.Trace.{Serves, IsUnasked, WasAsked, Told}
+use Rattle.gp_plain.specs.declared.reply.HoldReport.{HoldReport}
+use Rattle.gp_routes.specs.declared.route.Rule.{Rule}
+use Rattle.gp_session.specs.Seats.{SeatView}
+use Rattle.gp_session_hold.specs.Rows.{HoldsRow, none as none_left}
+use Rattle.gp_session_hold.proofs.Rowing.{holds_none, entries_none, attaches_none}
+use Rattle.gp_session_http.specs.Turns.{Fresh, Past, first}
+use Rattle.gp_session_http.specs.Trace.{HeardAs, Serves, IsUnasked, WasAsked, Told}
 use Rattle.gp_session_http.specs.Moves.{waits, Used, Leads, IsUnanswered, IsServedAt, HasAsked, said, IsSpeakingAt, HasHeadOf, IsAnsweredAt, IsFailedAt}
-use Rattle.gp_session_http.proofs.Rows.{with_wire, with_line, with_watch, moved_line, moved_watch, moved_by_put, moved_unput, stays_wire, stays_line, stays_watch, no_parts}
+use Rattle.gp_session_http.proofs.Rows.{with_wire, with_line, with_watch, moved_line, moved_watch, moved_by_put, moved_unput, past_on, stays_wire, stays_line, stays_watch, no_parts}
 use Rattle.gp_session_http.proofs.Hearing.{none_waits}
 
 -- what can be asked of a request that is served
-pub askable : ForwardLaw → (l : LiveView) (w : Whole) (address : Address) → IsServedAt l w address → (asked : Asked) → asked.request ≡ w → asked.address ≡ address → IsAskable asked
-askable law l w address at asked same to =
-    let served = at.request.asks in
+pub askable : ForwardLaw → (rules : List Rule) (received : List ℕ) (asked : Asked) → IsServed rules asked.request asked.address received → IsAskable asked
+askable law rules received asked served =
     let target = served.whole.served.target in
-    let can : CanAsk w.head = law.read at.request.received w.head served.whole.length w.path target.authority served.whole.read target.split in
-    let host : IsFieldValue address.host = subst (λ (a : Address). IsFieldValue a.host) (sym served.routed.address_is) (law.host served.routed.route.address.host served.routed.is.good.host) in
-    record { request = subst (λ (x : Whole). CanAsk x.head) (sym same) can; host = subst (λ (a : Address). IsFieldValue a.host) (sym to) host }
+    record {
+      request = law.read received asked.request.head served.whole.length asked.request.path target.authority served.whole.read target.split;
+      host = subst IsFieldValue (sym (ap (λ (a : Address). a.host) served.routed.address_is)) (law.host served.routed.route.address.host served.routed.is.good.host);
+    }
 
 -- the clock was asked once
 was_asked : (v w : WatchView) (now : ℕ) → IsUnasked v → WatchRow v → (WatchRow v → WatchRow w) → Uses v w now → WasAsked w now
@@ -66,13 +72,30 @@ was_asked v w now un row on uses = record { last = on row now uses.moment; calls
 unasked_row : (v : WatchView) → IsUnasked v → WatchRow v
 unasked_row v un = λ now some. let none : None ≡ Some now = sym un.moment ∙ some in let no : ⊥ = cc in absurd no
 
+-- what is asked for the first time
+
+first_serves : (c : Charter) (asked : Asked) (received : List ℕ) → asked.repeats ≡ 0 → IsServed c.rules asked.request asked.address received → Serves c asked received
+first_serves c asked received none h = subst (λ (n : ℕ). HeardAs n (IsServed c.rules asked.request asked.address) received) (sym none) h
+
+first_past : (l : LineView) (c : Charter) (s : SeatView) (reports : List HoldReport) (asked : Asked) (last : Last) → asked.repeats ≡ 0 → asked.last ≡ None → Fresh l s reports → (LineRow l [] idle → LineRow l [] last) → Past l c s reports asked last
+first_past l c s reports asked last none item h row = record {
+  turns = [];
+  behind = first asked none item;
+  held = tt;
+  talks = λ alone. row (h.talks alone);
+  entries = entries_none s h.entries;
+  attaches = attaches_none s h.entries h.holds;
+  holds = subst (λ (items : List HoldReport). HoldsRow s items none_left) (sym h.reports_are) (holds_none s h.holds);
+  told = h.reports_are;
+}
+
 module _ (v : LiveView) (u : WatchView) (w : Whole) (address : Address) (at : IsServedAt v w address) (now : ℕ) (uses : Uses v.watch u now) where
   pub watched : Moved v (with_watch v u)
   watched = moved_watch v u uses.moved.start
 
   -- the origin is asked
-  pub begins : (WatchRow v.watch → WatchRow u) → (s : AskingStage) → s.asked.request ≡ w → s.asked.address ≡ address → s.asked.moment ≡ now → BeginsFor v.charter.signer s.asked s.exchange → Leads v (with_watch v u) 4 (Go (Asking s))
-  begins on s same to moment begun =
+  pub begins : (WatchRow v.watch → WatchRow u) → (s : AskingStage) → s.asked.request ≡ w → s.asked.address ≡ address → s.asked.moment ≡ now → s.asked.repeats ≡ 0 → s.asked.last ≡ None → BeginsFor v.charter.signer s.asked s.exchange → Leads v (with_watch v u) 4 (Go (Asking s))
+  begins on s same to moment none item begun =
       let x = s.exchange in
       let here : x ≡ record { asked = x.asked; place = place.Unbegun x.asked.request } = ap (λ (p : Place). record { asked = x.asked; place = p }) begun.unbegun in
       record {
@@ -83,8 +106,9 @@ module _ (v : LiveView) (u : WatchView) (w : Whole) (address : Address) (at : Is
             parts = [];
             cut = no_parts;
             request = request_same v.wire v.wire (IsServed v.charter.rules w address) (Serves v.charter s.asked) at.request refl refl
-                (λ received h. subst (λ (a : Address). IsServed v.charter.rules s.asked.request a received) (sym to) (subst (λ (y : Whole). IsServed v.charter.rules y address received) (sym same) h));
-            talks = λ alone. subst (λ (y : ExchangeView). LineRow v.line [] (speaking (said y []))) (sym here) (begins_talk v.line [] x.asked x.asked.request (at.talks alone));
+                (λ received h. first_serves v.charter s.asked received none (subst (λ (a : Address). IsServed v.charter.rules s.asked.request a received) (sym to) (subst (λ (y : Whole). IsServed v.charter.rules y address received) (sym same) h)));
+            talks = first_past v.line v.charter v.seat v.reports.items s.asked (speaking (said x [])) none item at.talks
+                (λ row. subst (λ (y : ExchangeView). LineRow v.line [] (speaking (said y []))) (sym here) (begins_talk v.line [] x.asked x.asked.request row));
             aim = begun.asks;
             at = record { early = subst (λ (p : Place). rank p < 4) (sym begun.unbegun) (omega arith); none = ap head_of begun.unbegun };
             bytes = at.bytes;
@@ -128,10 +152,10 @@ pub asking_told : (l : LiveView) (s : AskingStage) → IsSpeakingAt l s → Expe
 asking_told l s h at = record { given = []; parts = []; cut = no_parts; request = h.request; talks = h.talks; aim = h.aim; at = at; bytes = h.bytes; times = h.times; stays = h.stays }
 
 -- a poll of the talk
-pub polled : (v : LiveView) (l : LineView) (asked : Asked) (x y : ExchangeView) (a b : Last) (text : List ℕ) → MovedLine v.line l → y.asked ≡ x.asked → (LineRow v.line [] a → LineRow l [] b) → HasAsked v asked x a text → HasAsked (with_line v l) asked y b text
+pub polled : (v : LiveView) (l : LineView) (asked : Asked) (x y : ExchangeView) (a b : Last) (text : List ℕ) → MovedLine v.line l → y.asked ≡ x.asked → ((aims : List Aim) → LineRow v.line aims a → LineRow l aims b) → HasAsked v asked x a text → HasAsked (with_line v l) asked y b text
 polled v l asked x y a b text m same row h = record {
   request = h.request;
-  talks = λ alone. row (h.talks (subst IsIdle m.start alone));
+  talks = past_on v.line l v.charter v.seat v.reports.items asked a b m.start row h.talks;
   aim = subst (IsAskedFor v.charter.signer asked) (sym same) h.aim;
   bytes = h.bytes;
   times = h.times;
@@ -164,7 +188,7 @@ module _ (v : LiveView) (w : WireView) (start : w.start ≡ v.wire.start) (link 
 pub over_hung : (v : LiveView) (asked : Asked) (x : ExchangeView) (given text : List ℕ) → rank x.place ≡ 5 → HasAsked v asked x (speaking (said x given)) text → HasAsked v asked x (hung (said x given)) text
 over_hung v asked x given text five h = record {
   request = h.request;
-  talks = λ alone. is_hung v.line [] (said x given) five (h.talks alone);
+  talks = past_on v.line v.line v.charter v.seat v.reports.items asked (speaking (said x given)) (hung (said x given)) refl (λ aims. is_hung v.line aims (said x given) five) h.talks;
   aim = h.aim;
   bytes = h.bytes;
   times = h.times;
