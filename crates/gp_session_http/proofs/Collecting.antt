@@ -50,7 +50,7 @@ use Rattle.gp_session_http.specs.Grants.{hold_by, IsHoldOf, IsPrepared, stream_h
 use Rattle.gp_session_http.specs.Heard.{Heard, IsUnattached}
 use Rattle.gp_session_http.specs.Posings.{IsCountedIn, IsOpeningOf, IsPosed, kept_for}
 use Rattle.gp_session_http.specs.Routing.{Charter, IsServed}
-use Rattle.gp_session_http.specs.Turns.{Turn, Behind, first, again, reports_before}
+use Rattle.gp_session_http.specs.Turns.{Turn, Behind, first as asked_first, again as asked_again, reports_before}
 use Rattle.gp_session_http.specs.Givings.{code_given, given_text}
 use Rattle.gp_session_http.specs.Moves.{waits, Leads, HasAsked, said, HasHeadOf, IsAnsweredAt, IsFailedAt, HasFailedAt, HasCome, HasComeAll, IsAnsweredWith, GathersOn, GathersTo}
 use Rattle.gp_session_http.specs.Passing.{ArePartsOf, code_by, in_chunks}
@@ -329,7 +329,7 @@ heard_serves : (rules : List Rule) (asked : Asked) (n : ℕ) (received : List �
 heard_serves rules asked zero received h = record { used = received; unused = []; split = sym (append-nil received); is = h }
 heard_serves rules asked (suc n) received h = h
 
-heard_first : (v : LiveView) (s : AskingStage) (answer : Answer) → IsAnsweredWith v s answer → Heard v s.asked s.exchange answer
+abbrev heard_first : (v : LiveView) (s : AskingStage) (answer : Answer) → IsAnsweredWith v s answer → Heard v s.asked s.exchange answer
 heard_first v s answer h = record {
   content = h.content;
   turns = h.rows.talks.turns;
@@ -398,8 +398,8 @@ polls_answer v s answer h wish b p =
     }
 
 few_behind : (c : Charter) (turns : List Turn) (asked : Asked) → Behind c turns asked → asked.repeats ≤ most_repeats
-few_behind c turns asked (first asked none item) = subst (λ (n : ℕ). n ≤ most_repeats) (sym none) (omega arith)
-few_behind c turns asked (again before turn asked behind is on) = on.few
+few_behind c turns asked (asked_first a never item) = subst (λ (n : ℕ). n ≤ most_repeats) (sym never) (omega arith)
+few_behind c turns asked (asked_again before turn a behind is on) = on.few
 
 -- a request isn't repeated more often than it may be
 pub few_repeats : (v : LiveView) (s : AskingStage) (answer : Answer) → IsAnsweredWith v s answer → s.asked.repeats ≤ most_repeats

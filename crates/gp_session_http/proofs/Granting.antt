@@ -32,7 +32,7 @@ use Rattle.gp_session_http.specs.declared.held.Held.TheVariants.{Attaching, Decl
 use Rattle.gp_session_http.specs.declared.held.HeldNext.{HeldNext}
 use Rattle.gp_session_http.specs.declared.held.HeldNext.TheVariants.{Go, Wait, Again, End}
 use Rattle.gp_session_http.specs.Routing.{Charter, IsServed}
-use Rattle.gp_session_http.specs.Turns.{Turn, Behind, first, again, AreHeld, specs_before, reports_before}
+use Rattle.gp_session_http.specs.Turns.{Turn, Behind, first as asked_first, again as asked_again, AreHeld, specs_before, reports_before}
 use Rattle.gp_session_http.specs.Views.{LiveView, Moved, Goes}
 use Rattle.gp_session_http.specs.Trace.{BeginsWith}
 use Rattle.gp_session_http.specs.Heard.{Heard, IsUnattached}
@@ -121,7 +121,7 @@ again_from u v w s same a = record {
 held_to_from : (u v w : LiveView) (k n : ℕ) (next : HeldNext) → Goes u v → v.reports.items ≡ u.reports.items → k ≤ n → HeldLeadsTo v w k next → HeldLeadsTo u w n next
 held_to_from u v w k n (Go stage) m same le l = (l.0, omega (arith, le, l.1), reported_from u v w stage same l.2)
 held_to_from u v w k n (Wait stage) m same le l = (l.0, held_pends_from u v w stage m l.1)
-held_to_from u v w k n (Again stage) m same le l = again_from u v w stage same l
+held_to_from u v w k n (Again stage) m same le l = (again_from u v w stage same l.0, omega (arith, le, l.1))
 held_to_from u v w k n (End ended) m same le l = l
 
 pub held_from : (u v w : LiveView) (k n : ℕ) (next : HeldNext) → Goes u v → v.reports.items ≡ u.reports.items → k ≤ n → HeldLeads v w k next → HeldLeads u w n next
@@ -143,16 +143,16 @@ heard_twice : (told : Option (List ℕ)) (some more : List ℕ) → grown (grown
 heard_twice None some more = refl
 heard_twice (Some bytes) some more = ap Some (append_assoc bytes some more)
 
-more_unused : (Is : List ℕ → Type 0) (received heard : List ℕ) → BeginsWith Is received → BeginsWith Is (received ++ heard)
+pub more_unused : (Is : List ℕ → Type 0) (received heard : List ℕ) → BeginsWith Is received → BeginsWith Is (received ++ heard)
 more_unused Is received heard b = record { used = b.used; unused = b.unused ++ heard; split = ap (λ (xs : List ℕ). xs ++ heard) b.split ∙ append_assoc b.used b.unused heard; is = b.is }
 
 -- the holds of turns stay as they are
-held_moved : (s t : SeatView) (c : Charter) (turns : List Turn) (asked : Asked) → MovedSeat s t → Behind c turns asked → AreHeld s turns → AreHeld t turns
+pub held_moved : (s t : SeatView) (c : Charter) (turns : List Turn) (asked : Asked) → MovedSeat s t → Behind c turns asked → AreHeld s turns → AreHeld t turns
 held_moved s t c turns asked moved behind held = all_moved turns (all_released c turns asked behind) held
   where
     all_released : (c : Charter) (turns : List Turn) (asked : Asked) → Behind c turns asked → All (λ (turn : Turn). turn.share.released ≡ true) turns
-    all_released c turns asked (first asked none item) = All-nil _
-    all_released c turns asked (again before turn asked behind is on) = All-push (λ (t : Turn). t.share.released ≡ true) before turn (all_released c before turn.asked behind) is.released
+    all_released c turns asked (asked_first a never item) = All-nil _
+    all_released c turns asked (asked_again before turn a behind is on) = All-push (λ (t : Turn). t.share.released ≡ true) before turn (all_released c before turn.asked behind) is.released
 
     all_moved : (turns : List Turn) → All (λ (turn : Turn). turn.share.released ≡ true) turns → AreHeld s turns → AreHeld t turns
     all_moved [] all h = tt
@@ -170,7 +170,7 @@ pub same_more : (rs qs : List HoldReport) → qs ≡ rs → IsPrefix rs qs
 same_more rs qs same = ([], append-nil rs ∙ sym same)
 
 module _ (v : LiveView) (x : WireView) (u : WatchView) (t : SeatView) (r : Roomy HoldReport) (asked : Asked) (y : ExchangeView) (answer : Answer) (h : Heard v asked y answer) where
-  pub heard_on : MovedWire v.wire x → (heard : List ℕ) → x.link.received ≡ grown v.wire.link.received heard → Rose u.start.calls u.clock.calls → WatchRow u → MovedSeat v.seat t → (SeatRow v.seat → SeatRow t) → IsPrefix v.reports.items r.items → Heard (with_held v x u t r) asked y answer
+  abbrev pub heard_on : MovedWire v.wire x → (heard : List ℕ) → x.link.received ≡ grown v.wire.link.received heard → Rose u.start.calls u.clock.calls → WatchRow u → MovedSeat v.seat t → (SeatRow v.seat → SeatRow t) → IsPrefix v.reports.items r.items → Heard (with_held v x u t r) asked y answer
   heard_on moved heard received calls times seat row more = record {
     content = h.content;
     turns = h.turns;
@@ -193,22 +193,22 @@ module _ (v : LiveView) (x : WireView) (u : WatchView) (t : SeatView) (r : Roomy
   }
 
 -- the client's end alone moved
-pub heard_wire : (v : LiveView) (x : WireView) (asked : Asked) (y : ExchangeView) (answer : Answer) → Heard v asked y answer → MovedWire v.wire x → x.link.received ≡ v.wire.link.received → Heard (with_held v x v.watch v.seat v.reports) asked y answer
+abbrev pub heard_wire : (v : LiveView) (x : WireView) (asked : Asked) (y : ExchangeView) (answer : Answer) → Heard v asked y answer → MovedWire v.wire x → x.link.received ≡ v.wire.link.received → Heard (with_held v x v.watch v.seat v.reports) asked y answer
 heard_wire v x asked y answer h moved same = heard_on v x v.watch v.seat v.reports asked y answer h moved [] (same ∙ heard_none v.wire.link.received) h.calls h.times (moved_seat_same v.seat) (λ row. row) (none_more v.reports.items)
 
 -- or the hub's end alone
-pub heard_seat : (v : LiveView) (t : SeatView) (r : Roomy HoldReport) (asked : Asked) (y : ExchangeView) (answer : Answer) → Heard v asked y answer → MovedSeat v.seat t → (SeatRow v.seat → SeatRow t) → IsPrefix v.reports.items r.items → Heard (with_held v v.wire v.watch t r) asked y answer
+abbrev pub heard_seat : (v : LiveView) (t : SeatView) (r : Roomy HoldReport) (asked : Asked) (y : ExchangeView) (answer : Answer) → Heard v asked y answer → MovedSeat v.seat t → (SeatRow v.seat → SeatRow t) → IsPrefix v.reports.items r.items → Heard (with_held v v.wire v.watch t r) asked y answer
 heard_seat v t r asked y answer h seat row more = heard_on v v.wire v.watch t r asked y answer h (moved_wire_same v.wire) [] (heard_none v.wire.link.received) h.calls h.times seat row more
 
-pub granting_on : (v : LiveView) (x : WireView) (u : WatchView) (t : SeatView) (r : Roomy HoldReport) (g : Grant) → Granting v g → MovedWire v.wire x → (heard : List ℕ) → x.link.received ≡ grown v.wire.link.received heard
+abbrev pub granting_on : (v : LiveView) (x : WireView) (u : WatchView) (t : SeatView) (r : Roomy HoldReport) (g : Grant) → Granting v g → MovedWire v.wire x → (heard : List ℕ) → x.link.received ≡ grown v.wire.link.received heard
     → Rose u.start.calls u.clock.calls → WatchRow u → MovedSeat v.seat t → (SeatRow v.seat → SeatRow t) → IsPrefix v.reports.items r.items → Granting (with_held v x u t r) g
 granting_on v x u t r g h moved heard received calls times seat row more =
     record { heard = heard_on v x u t r g.asked.value g.exchange.value g.answer.value h.heard moved heard received calls times seat row more; is = h.is }
 
-pub granting_wire : (v : LiveView) (x : WireView) (g : Grant) → Granting v g → MovedWire v.wire x → x.link.received ≡ v.wire.link.received → Granting (with_held v x v.watch v.seat v.reports) g
+abbrev pub granting_wire : (v : LiveView) (x : WireView) (g : Grant) → Granting v g → MovedWire v.wire x → x.link.received ≡ v.wire.link.received → Granting (with_held v x v.watch v.seat v.reports) g
 granting_wire v x g h moved same = record { heard = heard_wire v x g.asked.value g.exchange.value g.answer.value h.heard moved same; is = h.is }
 
-pub granting_seat : (v : LiveView) (t : SeatView) (r : Roomy HoldReport) (g : Grant) → Granting v g → MovedSeat v.seat t → (SeatRow v.seat → SeatRow t) → IsPrefix v.reports.items r.items → Granting (with_held v v.wire v.watch t r) g
+abbrev pub granting_seat : (v : LiveView) (t : SeatView) (r : Roomy HoldReport) (g : Grant) → Granting v g → MovedSeat v.seat t → (SeatRow v.seat → SeatRow t) → IsPrefix v.reports.items r.items → Granting (with_held v v.wire v.watch t r) g
 granting_seat v t r g h seat row more = record { heard = heard_seat v t r g.asked.value g.exchange.value g.answer.value h.heard seat row more; is = h.is }
 
 rose_again : (a b c : ℕ) → Rose a b → Rose b c → Rose a c

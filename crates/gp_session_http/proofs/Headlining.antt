@@ -1,54 +1,58 @@
--- What was sent of the hold of a session follows each chain that covers it.
-use Rattle.std.proofs.Common.{◌≡◌, ℕ, Bool, List, [], ◌∷◌, ◌++◌, map, Option, Some, None, refl, sym, ap, ◌∙◌, subst, arith, append-nil, ◌⊎◌, inl, inr}
-use Rattle.std.specs.Option.{option_map_or}
-use Rattle.std.specs.List.{Contains}
-use Rattle.std.proofs.lemmas.List.Elements.{Contains-push_cases}
+-- What was sent of the holds of a session.
+use Rattle.std.proofs.Common.{◌≡◌, ℕ, ◌+◌, Bool, true, List, [], ◌∷◌, ◌++◌, length, map, slice_get, Option, Some, None, option_map, refl, sym, ap, ◌∙◌, subst, arith, append-nil, append_assoc, length-append, ◌⊎◌, inl, inr}
+use Rattle.std.specs.Option.{option_map_or, option_to_list}
+use Rattle.std.specs.List.{All, Contains}
+use Rattle.std.proofs.lemmas.List.{map-append}
+use Rattle.std.proofs.lemmas.List.Elements.{All-nil, All-push, All-head, All-tail, Contains-push_cases, Contains-append_cases}
 use mathlib.Core.List.{IsPrefix}
 use Rattle.gp_plain.specs.History.{held}
 use Rattle.gp_plain.specs.Others.{Share}
+use Rattle.gp_plain.specs.Reports.{report}
 use Rattle.gp_plain.specs.declared.event.HoldSpec.{HoldSpec}
 use Rattle.gp_plain.specs.declared.reply.EndCause.{EndCause}
+use Rattle.gp_plain.specs.declared.reply.EndCause.TheVariants.{Retry}
+use Rattle.gp_plain.specs.declared.reply.HoldReport.{HoldReport}
 use Rattle.gp_plain.specs.declared.reply.Piece.{Piece}
 use Rattle.gp_hub.specs.declared.outcome.SessionEnd.{SessionEnd}
 use Rattle.gp_hub.specs.declared.outcome.Why.{Why}
-use Rattle.gp_session.specs.Seats.{SeatView, HasNoHolds}
-use Rattle.gp_session.specs.Wires.{BytesRow, Sent, at_most}
-use Rattle.gp_session_hold.specs.Rows.{KeptView, IsKept, holds_of, share_of_hold, numbers_of, specs_of, taken_at, told_at, stream_text}
+use Rattle.gp_session.specs.Lines.{LineView, Last}
+use Rattle.gp_session.specs.Seats.{SeatView}
+use Rattle.gp_session.specs.Wires.{WireView, BytesRow, Sent, at_most, exactly}
+use Rattle.gp_session_hold.specs.Rows.{KeptView, IsKept, IsOver, HoldsRow, none, kept, over, AttachRow, holds_of, share_of_hold, numbers_of, specs_of, reports_of, taken_at, told_at, stream_text}
 use Rattle.gp_session_hold.specs.Streams.{Streams, Finished, Stopped}
 use Rattle.gp_session_hold.proofs.Following.{headline_law_holds, stream_law_holds}
-use Rattle.gp_session_hold.proofs.Owning.{contains_own}
+use Rattle.gp_session_wait.specs.Laws.{poll_text}
+use Rattle.gp_session_wait.specs.Views.{WaitView}
+use Rattle.gp_session_wait.specs.Waits.{IsAnswered, IsUnput, IsRetried, IsOverflowed}
+use Rattle.gp_session_wait.specs.declared.answer.Answer.{Answer as OwnAnswer}
+use Rattle.gp_session_wait.specs.declared.wait.Repeat.{Repeat}
+use Rattle.gp_session_wait.proofs.Laws.{wait_law_holds, answer_law_is}
+use Rattle.gp_session_wait.proofs.Chains.{poll_chain_law_holds}
+use Rattle.gp_session_wait.proofs.Published.{poll_item_law_holds}
+use Rattle.gp_session_http.specs.declared.asked.Asked.{Asked}
 use Rattle.gp_session_http.specs.declared.grant.Grant.{Grant}
+use Rattle.gp_session_http.specs.declared.poll.Poll.{Poll}
 use Rattle.gp_session_http.specs.declared.held.Held.{Held}
-use Rattle.gp_session_http.specs.declared.held.Held.TheVariants.{Attaching, Declining, Streaming, Closing, Leaving}
+use Rattle.gp_session_http.specs.declared.held.Held.TheVariants.{Attaching, Declining, Streaming, Closing, Leaving, Beginning, Denying, Waiting, Answering, Departing}
 use Rattle.gp_session_http.specs.declared.leaving.Parting.{Parting}
 use Rattle.gp_session_http.specs.declared.leaving.Parting.TheVariants.{Gone, Wanting}
+use Rattle.gp_session_http.specs.declared.stage.Stage.{Stage}
 use Rattle.gp_session_http.specs.declared.stage.Ended.{Ended}
-use Rattle.gp_session_http.specs.Grants.{stream_head}
-use Rattle.gp_session_http.specs.Headlines.{FollowsHold, HasHeadline}
-use Rattle.gp_session_http.specs.Holding.{Granting, stream_of, IsUnattached, IsDeclined, HasAttached, HasNumber, HeldTold, LeavesAs, LeftAs, IsClosed, IsUnput, HeldEnds, full_sent, full_gone, full_wanting, unattached_wanting, unattached_worn, told_sent, told_gone, told_wanting, kept_worn, leaving_worn, let_go}
+use Rattle.gp_session_http.specs.Routing.{Charter}
+use Rattle.gp_session_http.specs.Grants.{stream_head, AsksFor}
+use Rattle.gp_session_http.specs.Posings.{own_of}
+use Rattle.gp_session_http.specs.Turns.{Turn, Behind, first as asked_first, again as asked_again, AreHeld, specs_before, reports_before, Past, PastOf, Fresh}
+use Rattle.gp_session_http.specs.Trace.{asked_in, last_of, Told}
+use Rattle.gp_session_http.specs.Moves.{hung_up}
+use Rattle.gp_session_http.specs.Heard.{IsUnattached, IsDeclined, HasAttached, IsLastHold}
+use Rattle.gp_session_http.specs.LongPolls.{Polling, PollsFor, MayPoll, IsPollOf, PollIs, StillPolls, PollEnds, denied_sent, denied_gone, denied_wanting, unbegun_wanting, unbegun_worn, answered_sent, answered_gone, unput, overflowed, unrepeated, waiting_worn, departed}
+use Rattle.gp_session_http.specs.Headlines.{FollowsHold, IsStreamed, IsPolled, WasRepeated, HasLine, streamed, polled, repeated, HasHeadline}
+use Rattle.gp_session_http.specs.Holding.{StreamFinishes, PollFinishes, Granting, stream_of, HeldTold, LeavesAs, LeftAs, IsClosed, IsUnput as IsStreamUnput, HeldEnds, full_sent, full_gone, full_wanting, unattached_wanting, unattached_worn, told_sent, told_gone, told_wanting, kept_worn, leaving_worn, let_go}
 use Rattle.gp_session_http.specs.Polls.{PhaseFinishes}
 use Rattle.gp_session_http.specs.Views.{LiveView}
 
--- a session without a hold
-
 none_in : (number : ℕ) → Contains [] number → ⊥
 none_in number (k, lt, at) = absurd (omega (arith, lt))
-
-no_number : (holds : List (ℕ × Share)) (number : ℕ) → holds ≡ [] → Contains (numbers_of holds) number → ⊥
-no_number [] number e c = none_in number c
-no_number (h ∷ hs) number e c = absurd cc
-
-pub headline_none : (l : LiveView) → HasNoHolds l.seat → HasHeadline l
-headline_none l none = λ number c. absurd (no_number (holds_of l.seat) number none c)
-
-no_specs : (holds : List (ℕ × Share)) → specs_of holds ≡ [] → holds ≡ []
-no_specs [] e = refl
-no_specs (h ∷ hs) e = absurd cc
-
-headline_declined : (l : LiveView) (g : Grant) → IsDeclined l g → HasHeadline l
-headline_declined l g h = headline_none l (no_specs (holds_of l.seat) h.attaches.holds)
-
--- a session with one hold
 
 one_number : (n a : ℕ) → Contains (n ∷ []) a → n ≡ a
 one_number n a c = by_cases (Contains-push_cases [] n a c)
@@ -57,15 +61,111 @@ one_number n a c = by_cases (Contains-push_cases [] n a c)
     by_cases (inl none) = absurd (none_in a none)
     by_cases (inr same) = same
 
-only : (holds : List (ℕ × Share)) (spec : HoldSpec) (a b : ℕ) → specs_of holds ≡ spec ∷ [] → Contains (numbers_of holds) a → Contains (numbers_of holds) b → a ≡ b
-only [] spec a b e c d = absurd cc
-only (h ∷ []) spec a b e c d = sym (one_number h.0 a c) ∙ one_number h.0 b d
-only (h ∷ i ∷ hs) spec a b e c d = absurd cc
+-- turns, and the numbers of their holds
 
-headline_one : (l : LiveView) (g : Grant) (hold : KeptView) → Granting l g → HasAttached l g → HasNumber l hold → FollowsHold l g hold.number → HasHeadline l
-headline_one l g hold rows attached own follows = λ number c. (g, rows, subst (FollowsHold l g) (only (holds_of l.seat) attached.spec hold.number number attached.attaches.holds own c) follows)
+all_retried : (c : Charter) (turns : List Turn) (asked : Asked) → Behind c turns asked → All (λ (turn : Turn). turn.share.told ≡ Some Retry) turns
+all_retried c turns asked (asked_first a never item) = All-nil _
+all_retried c turns asked (asked_again before turn a behind is on) = All-push (λ (t : Turn). t.share.told ≡ Some Retry) before turn (all_retried c before turn.asked behind) is.told
 
--- by its bytes
+pub turns_count : (c : Charter) (turns : List Turn) (asked : Asked) → Behind c turns asked → length turns ≡ asked.repeats
+turns_count c turns asked (asked_first a never item) = sym never
+turns_count c turns asked (asked_again before turn a behind is on) = length-append before (turn ∷ []) ∙ ap (λ (n : ℕ). n + 1) (turns_count c before turn.asked behind) ∙ sym on.count
+
+abbrev numbers_before : List Turn → List ℕ
+numbers_before turns = map (λ (turn : Turn). turn.number) turns
+
+in_turns : (l : LiveView) (turns : List Turn) → All (λ (turn : Turn). turn.share.told ≡ Some Retry) turns → AreHeld l.seat turns → (number : ℕ) → Contains (numbers_before turns) number → WasRepeated l number
+in_turns l [] all h number c = absurd (none_in number c)
+in_turns l (turn ∷ turns) all h number c = by_place c
+  where
+    behind_it : Contains (numbers_before turns) number → WasRepeated l number
+    behind_it d = in_turns l turns (All-tail (λ (t : Turn). t.share.told ≡ Some Retry) turn turns all) h.1 number d
+
+    it : turn.number ≡ number → WasRepeated l number
+    it same = record { share = turn.share; there = subst (λ (n : ℕ). share_of_hold l.seat n ≡ Some turn.share) same h.0; told = All-head (λ (t : Turn). t.share.told ≡ Some Retry) turn turns all }
+
+    by_place : Contains (turn.number ∷ numbers_before turns) number → WasRepeated l number
+    by_place d = elim (Contains-append_cases (turn.number ∷ []) (numbers_before turns) number d) [ inl same ↦ it (one_number turn.number number same) | inr e ↦ behind_it e ]
+
+reported_numbers : (holds : List (ℕ × Share)) → map (λ (r : HoldReport). r.number) (reports_of holds) ≡ numbers_of holds
+reported_numbers [] = refl
+reported_numbers (h ∷ hs) = ap (λ (ns : List ℕ). h.0 ∷ ns) (reported_numbers hs)
+
+turned_numbers : (turns : List Turn) → map (λ (r : HoldReport). r.number) (reports_before turns) ≡ numbers_before turns
+turned_numbers [] = refl
+turned_numbers (t ∷ ts) = ap (λ (ns : List ℕ). t.number ∷ ns) (turned_numbers ts)
+
+same_front : (xs ys as bs : List HoldReport) → xs ++ as ≡ ys ++ bs → length xs ≡ length ys → xs ≡ ys
+same_front [] [] as bs e n = refl
+same_front [] (y ∷ ys) as bs e n = absurd (omega (arith, n))
+same_front (x ∷ xs) [] as bs e n = absurd (omega (arith, n))
+same_front (x ∷ xs) (y ∷ ys) as bs e n =
+    let head : x ≡ y = cc in
+    let tail : xs ++ as ≡ ys ++ bs = cc in
+    ap (λ (r : HoldReport). r ∷ xs) head ∙ ap (λ (rs : List HoldReport). y ∷ rs) (same_front xs ys as bs tail (omega (arith, n)))
+
+length_specs : (holds : List (ℕ × Share)) → length (specs_of holds) ≡ length holds
+length_specs [] = refl
+length_specs (h ∷ hs) = ap (λ (n : ℕ). n + 1) (length_specs hs)
+
+length_turns : (turns : List Turn) → length (specs_before turns) ≡ length turns
+length_turns [] = refl
+length_turns (t ∷ ts) = ap (λ (n : ℕ). n + 1) (length_turns ts)
+
+length_reports : (holds : List (ℕ × Share)) → length (reports_of holds) ≡ length holds
+length_reports [] = refl
+length_reports (h ∷ hs) = ap (λ (n : ℕ). n + 1) (length_reports hs)
+
+length_before : (turns : List Turn) → length (reports_before turns) ≡ length turns
+length_before [] = refl
+length_before (t ∷ ts) = ap (λ (n : ℕ). n + 1) (length_before ts)
+
+-- the first holds of a session are those of the turns
+
+pub before_count : (turns : List Turn) → length (reports_before turns) ≡ length turns
+before_count turns = length_before turns
+
+pub front_reports : (holds : List (ℕ × Share)) (turns : List Turn) (as bs : List HoldReport) → reports_of holds ++ as ≡ reports_before turns ++ bs → length holds ≡ length turns → reports_of holds ≡ reports_before turns
+front_reports holds turns as bs e n = same_front (reports_of holds) (reports_before turns) as bs e (length_reports holds ∙ n ∙ sym (length_before turns))
+
+front_numbers : (holds : List (ℕ × Share)) (turns : List Turn) (as bs : List HoldReport) → reports_of holds ++ as ≡ reports_before turns ++ bs → length holds ≡ length turns → numbers_of holds ≡ numbers_before turns
+front_numbers holds turns as bs e n = sym (reported_numbers holds) ∙ ap (λ (rs : List HoldReport). map (λ (r : HoldReport). r.number) rs) (front_reports holds turns as bs e n) ∙ turned_numbers turns
+
+-- there are as many before the last as there are turns
+pub same_count : (holds before : List (ℕ × Share)) (last : ℕ × Share) (turns : List Turn) (spec : HoldSpec) → holds ≡ before ++ last ∷ [] → specs_of holds ≡ specs_before turns ++ spec ∷ [] → length before ≡ length turns
+same_count holds before last turns spec all row =
+    let specs : length (specs_of holds) ≡ length (specs_before turns) + 1 = ap (λ (ss : List HoldSpec). length ss) row ∙ length-append (specs_before turns) (spec ∷ []) in
+    let count : length holds ≡ length before + 1 = ap (λ (hs : List (ℕ × Share)). length hs) all ∙ length-append before (last ∷ []) in
+    let same = length_specs holds in
+    let turned = length_turns turns in
+    omega (arith, specs, count, same, turned)
+
+-- what is needed of the rows of a session with a hold: those of the turns before, and how its reports stand to its holds
+module _ (l : LiveView) (c : Charter) (turns : List Turn) (asked : Asked) (behind : Behind c turns asked) (held : AreHeld l.seat turns) where
+  turn_line : (number : ℕ) → Contains (numbers_before turns) number → HasLine l number
+  turn_line number d = repeated (in_turns l turns (all_retried c turns asked behind) held number d)
+
+  -- a session all of whose holds are those of turns
+  line_turns : (as bs : List HoldReport) → reports_of (holds_of l.seat) ++ as ≡ reports_before turns ++ bs → (refused : Option HoldSpec) → AttachRow l.seat (specs_before turns) refused → HasHeadline l
+  line_turns as bs e refused row = λ number d.
+      turn_line number (subst (λ (ns : List ℕ). Contains ns number) (front_numbers (holds_of l.seat) turns as bs e (sym (length_specs (holds_of l.seat)) ∙ ap (λ (ss : List HoldSpec). length ss) row.holds ∙ length_turns turns)) d)
+
+  -- and one that has one more
+  line_last : (hold : KeptView) (last : IsLastHold l hold) (spec : HoldSpec) → AttachRow l.seat (specs_before turns ++ spec ∷ []) None → (as bs : List HoldReport) → reports_of last.before ++ as ≡ reports_before turns ++ bs → HasLine l hold.number → HasHeadline l
+  line_last hold last spec row as bs e line = λ number d. by_cases number (Contains-push_cases (numbers_of last.before) hold.number number (subst (λ (ns : List ℕ). Contains ns number) all d))
+    where
+      all : numbers_of (holds_of l.seat) ≡ numbers_of last.before ++ hold.number ∷ []
+      all = ap numbers_of last.all ∙ map-append (λ (h : ℕ × Share). h.0) last.before ((hold.number, last.share) ∷ [])
+
+      count : length last.before ≡ length turns
+      count = same_count (holds_of l.seat) last.before (hold.number, last.share) turns spec last.all row.holds
+
+      by_cases : (number : ℕ) → Contains (numbers_of last.before) number ⊎ (hold.number ≡ number) → HasLine l number
+      by_cases number (inl d) = turn_line number (subst (λ (ns : List ℕ). Contains ns number) (front_numbers last.before turns as bs e count) d)
+      by_cases number (inr same) = subst (HasLine l) same line
+
+-- streams, by their bytes
+
 follows_by : (l : LiveView) (g : Grant) (number : ℕ) → BytesRow l.wire (at_most (stream_text g.chunked (stream_head g) (taken_at l.seat number) (told_at l.seat number))) → FollowsHold l g number
 follows_by l g number b = λ chain h there c. headline_law_holds l.wire l.seat number g.chunked (stream_head g) b chain h there c
 
@@ -81,47 +181,168 @@ follows_finished l g hold cause f = follows_exactly l g hold.number (stream_law_
 follows_stopped : (l : LiveView) (g : Grant) (hold : KeptView) (end_told : Option EndCause) → Stopped (stream_of g hold) l.wire l.seat end_told → FollowsHold l g hold.number
 follows_stopped l g hold end_told s = follows_by l g hold.number (stream_law_holds.stopped (stream_of g hold) l.wire l.seat end_told s)
 
-own_kept : (l : LiveView) (hold : KeptView) (share : Share) → IsKept l.seat hold share → HasNumber l hold
-own_kept l hold share k = contains_own l.seat.pass.number hold.number (held l.seat.pass.seen) share k.there k.own
-
-headline_streams : (l : LiveView) (g : Grant) (hold : KeptView) → Granting l g → HasAttached l g → Streams (stream_of g hold) l.wire l.seat → HasHeadline l
-headline_streams l g hold rows attached s = headline_one l g hold rows attached (own_kept l hold s.share s.is) (follows_stream l g hold s)
-
-headline_leaves : (p : Parting) (l : LiveView) (g : Grant) (hold : KeptView) → Granting l g → HasAttached l g → LeavesAs p l (stream_of g hold) → HasHeadline l
-headline_leaves Gone l g hold rows attached s = headline_streams l g hold rows attached s.0
-headline_leaves Wanting l g hold rows attached s = headline_one l g hold rows attached (own_kept l hold s.share s.is) (follows_stopped l g hold None s)
-
-pub headline_held : (l : LiveView) (stage : Held) → HeldTold l stage → HasHeadline l
-headline_held l (Attaching s) h = headline_none l h.is.holds
-headline_held l (Declining s) h = headline_declined l s.grant h.is
-headline_held l (Streaming s) h = headline_streams l s.grant s.stream.hold h.keeps.rows h.keeps.attached (subst (λ z. Streams z l.wire l.seat) h.framed h.streams)
-headline_held l (Closing s) h = headline_one l s.grant s.hold.value h.rows h.is.attached h.is.own (follows_finished l s.grant s.hold.value s.cause h.is.finished)
-headline_held l (Leaving s) h = headline_leaves s.parting l s.grant s.hold h.keeps.rows h.keeps.attached h.leaves
-
--- at an end
-
 text_at : (chunked : Bool) (head : List ℕ) (s : SeatView) (number : ℕ) (share : Share) → share_of_hold s number ≡ Some share → share.told ≡ None → stream_text chunked head share.taken None ≡ stream_text chunked head (taken_at s number) (told_at s number)
 text_at chunked head s number share there none =
     ap (λ (ps : List Piece). stream_text chunked head ps None) (sym (ap (λ (o : Option Share). option_map_or (λ (x : Share). x.taken) o []) there))
     ∙ ap (λ (o : Option EndCause). stream_text chunked head (taken_at s number) o) (sym (ap (λ (o : Option Share). option_map_or (λ (x : Share). x.told) o None) there ∙ none))
 
+follows_leaves : (p : Parting) (l : LiveView) (g : Grant) (hold : KeptView) → LeavesAs p l (stream_of g hold) → FollowsHold l g hold.number
+follows_leaves Gone l g hold s = follows_stream l g hold s.0
+follows_leaves Wanting l g hold s = follows_stopped l g hold None s
+
 follows_left : (p : Parting) (l : LiveView) (g : Grant) (hold : KeptView) → LeftAs p l g hold → FollowsHold l g hold.number
 follows_left Gone l g hold s = follows_exactly l g hold.number (subst (Sent l.wire) (text_at g.chunked (stream_head g) l.seat hold.number s.share s.is.there s.is.told_is) s.bytes)
 follows_left Wanting l g hold s = follows_by l g hold.number (s.part, subst (IsPrefix s.part) (text_at g.chunked (stream_head g) l.seat hold.number s.share s.is.there s.is.told_is) s.is_part, s.bytes)
 
-ends_headline : (l : LiveView) (g : Grant) (e : SessionEnd) (y : Why) → Granting l g → HeldEnds l g e y → HasHeadline l
-ends_headline l g e y rows (full_sent h bytes rest) = headline_declined l g h
-ends_headline l g e y rows (full_gone h bytes failed) = headline_declined l g h
-ends_headline l g e y rows (full_wanting h bytes) = headline_declined l g h
-ends_headline l g e y rows (unattached_wanting h) = headline_none l h.holds
-ends_headline l g e y rows (unattached_worn h worn) = headline_none l h.holds
-ends_headline l g e y rows (told_sent hold cause h rest) = headline_one l g hold rows h.attached h.own (follows_finished l g hold cause h.finished)
-ends_headline l g e y rows (told_gone hold cause h failed) = headline_one l g hold rows h.attached h.own (follows_finished l g hold cause h.finished)
-ends_headline l g e y rows (told_wanting hold cause h) = headline_one l g hold rows h.attached h.own (follows_stopped l g hold (Some cause) h.stopped)
-ends_headline l g e y rows (kept_worn hold attached s worn) = headline_streams l g hold rows attached s
-ends_headline l g e y rows (leaving_worn hold parting attached s worn) = headline_leaves parting l g hold rows attached s
-ends_headline l g e y rows (let_go hold parting attached detached s) = headline_one l g hold rows attached detached.hold_is (follows_left parting l g hold s)
+-- long polls, by their bytes
+
+module _ (l : LiveView) (p : Poll) (rows : Polling l p) (number : ℕ) (share : Share) (there : share_of_hold l.seat number ≡ Some share) (asked_for : MayPoll p share.spec) where
+  abbrev poll_bytes : OwnAnswer → ℕ → List ℕ
+  poll_bytes own repeats = poll_text own repeats (taken_at l.seat number) (told_at l.seat number)
+
+  line_polled : BytesRow l.wire (at_most (poll_bytes (own_of p.answer.value) p.asked.value.repeats)) → HasLine l number
+  line_polled bytes = polled (record {
+    poll = p;
+    rows = rows;
+    share = share;
+    there = there;
+    asked_for = asked_for;
+    bytes = bytes;
+    answered = λ h at told. (
+        let a = answer_law_is l.seat number h (own_of p.answer.value) p.asked.value.repeats at told in
+        record { part = a.0; one = a.1; bytes = subst (λ (text : List ℕ). BytesRow l.wire (at_most text)) a.2 bytes });
+    chains = λ chain h at c. poll_chain_law_holds chain l.seat.pass.seen number h at c;
+    items = λ h at channels deadline again is. poll_item_law_holds l.seat.pass.seen number h at channels deadline again is;
+  })
+
+  line_row : (moment : ℕ) (v : WaitView) → IsPollOf p moment v → BytesRow l.wire (exactly (poll_bytes v.own v.repeats)) → HasLine l number
+  line_row moment v is bytes = line_polled
+      (subst (λ (text : List ℕ). BytesRow l.wire (at_most text)) (ap (λ (own : OwnAnswer). poll_bytes own v.repeats) is.own_is ∙ ap (poll_bytes (own_of p.answer.value)) is.repeats_is) (poll_bytes v.own v.repeats, ([], append-nil (poll_bytes v.own v.repeats)), bytes))
+
+  line_nothing : BytesRow l.wire (exactly []) → HasLine l number
+  line_nothing bytes = line_polled ([], (poll_bytes (own_of p.answer.value) p.asked.value.repeats, refl), bytes)
+
+line_still : (l : LiveView) (p : Poll) (hold : KeptView) → Polling l p → StillPolls l p hold → HasLine l hold.number
+line_still l p hold rows s = line_nothing l p rows hold.number s.share s.is.there s.asked_for s.bytes
+
+asked_by : (p : Poll) (moment : ℕ) (v : WaitView) (spec : HoldSpec) → IsPollOf p moment v → spec ≡ v.spec → MayPoll p spec
+asked_by p moment v spec is same = (moment, subst (PollsFor p moment) (sym same) is.spec_is)
+
+line_answered : (l : LiveView) (p : Poll) (hold : KeptView) (cause : EndCause) (code moment : ℕ) (v : WaitView) → Polling l p → IsPollOf p moment v → IsAnswered v l.wire l.seat hold cause code → HasLine l hold.number
+line_answered l p hold cause code moment v rows is a = line_row l p rows hold.number a.share a.ended.is.there (asked_by p moment v a.share.spec is a.ended.spec_is) moment v is (wait_law_holds.answered v l.wire l.seat hold cause code a)
+
+line_unput : (l : LiveView) (p : Poll) (hold : KeptView) (cause : EndCause) (moment : ℕ) (v : WaitView) → Polling l p → IsPollOf p moment v → IsUnput v l.wire l.seat hold cause → HasLine l hold.number
+line_unput l p hold cause moment v rows is a = line_nothing l p rows hold.number a.share a.ended.is.there (asked_by p moment v a.share.spec is a.ended.spec_is) a.bytes
+
+line_overflowed : (l : LiveView) (p : Poll) (hold : KeptView) (moment : ℕ) (v : WaitView) → Polling l p → IsPollOf p moment v → IsOverflowed v l.wire l.seat hold → HasLine l hold.number
+line_overflowed l p hold moment v rows is a = line_nothing l p rows hold.number a.share a.ended.is.there (asked_by p moment v a.share.spec is a.ended.spec_is) a.bytes
+
+line_retried : (l : LiveView) (p : Poll) (r : Repeat) (moment : ℕ) (v : WaitView) → Polling l p → IsPollOf p moment v → IsRetried v l.wire l.seat r → HasLine l r.hold.number
+line_retried l p r moment v rows is a = line_nothing l p rows r.hold.number a.share a.ended.is.there (asked_by p moment v a.share.spec is a.ended.spec_is) a.bytes
+
+-- the headline of each stage
+
+kept_reports : (l : LiveView) (turns : List Turn) (hold : KeptView) (o : IsPrefix (reports_before turns) l.reports.items) (row : HoldsRow l.seat l.reports.items (kept hold)) → reports_of row.done ++ [] ≡ reports_before turns ++ o.0
+kept_reports l turns hold o row = append-nil (reports_of row.done) ∙ sym row.reported ∙ sym o.1
+
+all_reports : (l : LiveView) (turns : List Turn) (o : IsPrefix (reports_before turns) l.reports.items) → l.reports.items ≡ reports_of (holds_of l.seat) → reports_of (holds_of l.seat) ++ [] ≡ reports_before turns ++ o.0
+all_reports l turns o same = append-nil (reports_of (holds_of l.seat)) ∙ sym same ∙ sym o.1
+
+last_reports : (l : LiveView) (turns : List Turn) (hold : KeptView) (last : IsLastHold l hold) (o : IsPrefix (reports_before turns) l.reports.items) → l.reports.items ≡ reports_of (holds_of l.seat)
+    → reports_of last.before ++ report hold.number last.share ∷ [] ≡ reports_before turns ++ o.0
+last_reports l turns hold last o same = sym (map-append (λ (h : ℕ × Share). report h.0 h.1) last.before ((hold.number, last.share) ∷ [])) ∙ ap reports_of (sym last.all) ∙ sym same ∙ sym o.1
+
+none_reports : (l : LiveView) → HoldsRow l.seat l.reports.items none → l.reports.items ≡ reports_of (holds_of l.seat)
+none_reports l row = row.reported ∙ ap reports_of (sym row.stands)
+
+-- by the rows of a stream or of a long poll
+module _ (l : LiveView) (turns : List Turn) (asked : Asked) (behind : Behind l.charter turns asked) (held : AreHeld l.seat turns) (told : IsPrefix (reports_before turns) l.reports.items) where
+  by_unattached : IsUnattached l turns → HasHeadline l
+  by_unattached is = line_turns l l.charter turns asked behind held [] told.0 (all_reports l turns told (none_reports l is.holds)) None is.attaches
+
+  by_declined : (Asks : HoldSpec → Type 0) → IsDeclined l turns Asks → HasHeadline l
+  by_declined Asks is = line_turns l l.charter turns asked behind held [] told.0 (all_reports l turns told (none_reports l is.holds)) (Some is.spec) (record { made = is.attaches.made; holds = is.attaches.holds })
+
+  by_kept : (Asks : HoldSpec → Type 0) (hold : KeptView) → HasAttached l turns Asks → HoldsRow l.seat l.reports.items (kept hold) → HasLine l hold.number → HasHeadline l
+  by_kept Asks hold at row line =
+      line_last l l.charter turns asked behind held hold (record { before = row.done; share = row.stands.share; all = row.stands.all }) at.spec at.attaches [] told.0 (kept_reports l turns hold told row) line
+
+  by_reported : (Asks : HoldSpec → Type 0) (hold : KeptView) (last : IsLastHold l hold) → HasAttached l turns Asks → l.reports.items ≡ reports_of (holds_of l.seat) → HasLine l hold.number → HasHeadline l
+  by_reported Asks hold last at same line =
+      line_last l l.charter turns asked behind held hold last at.spec at.attaches (report hold.number last.share ∷ []) told.0 (last_reports l turns hold last told same) line
+
+pub headline_held : (l : LiveView) (stage : Held) → HeldTold l stage → HasHeadline l
+headline_held l (Attaching s) h = let k = h.rows.heard in by_unattached l k.turns s.grant.asked.value k.behind k.held k.told h.is
+headline_held l (Declining s) h = let k = h.rows.heard in by_declined l k.turns s.grant.asked.value k.behind k.held k.told (AsksFor s.grant) h.is
+headline_held l (Streaming s) h = let k = h.keeps.rows.heard in
+    by_kept l k.turns s.grant.asked.value k.behind k.held k.told (AsksFor s.grant) s.stream.hold h.keeps.attached h.keeps.holds
+    (streamed (s.grant, h.keeps.rows, follows_stream l s.grant s.stream.hold (subst (λ z. Streams z l.wire l.seat) h.framed h.streams)))
+headline_held l (Closing s) h = let k = h.rows.heard in
+    by_reported l k.turns s.grant.asked.value k.behind k.held k.told (AsksFor s.grant) s.hold.value h.is.own h.is.attached (none_reports l h.is.holds)
+    (streamed (s.grant, h.rows, follows_finished l s.grant s.hold.value s.cause h.is.finished))
+headline_held l (Leaving s) h = let k = h.keeps.rows.heard in
+    by_kept l k.turns s.grant.asked.value k.behind k.held k.told (AsksFor s.grant) s.hold h.keeps.attached h.keeps.holds (streamed (s.grant, h.keeps.rows, follows_leaves s.parting l s.grant s.hold h.leaves))
+headline_held l (Beginning s) h = let k = h.rows.heard in by_unattached l k.turns s.poll.asked.value k.behind k.held k.told h.is
+headline_held l (Denying s) h = let k = h.rows.heard in by_declined l k.turns s.poll.asked.value k.behind k.held k.told (MayPoll s.poll) h.is
+headline_held l (Waiting s) h = let k = h.keeps.rows.heard in
+    by_kept l k.turns s.poll.asked.value k.behind k.held k.told (PollsFor s.poll s.since.value) s.wait.hold h.keeps.attached h.keeps.holds
+    (line_nothing l s.poll h.keeps.rows s.wait.hold.number h.waits.polls.share h.waits.polls.is.there (asked_by s.poll s.since.value s.wait h.waits.polls.share.spec h.poll_is h.waits.polls.spec_is) h.waits.bytes)
+headline_held l (Answering s) h = let k = h.rows.heard in
+    by_reported l k.turns s.poll.asked.value k.behind k.held k.told (PollsFor s.poll h.is.moment) s.hold.value h.is.own h.is.attached (none_reports l h.is.holds)
+    (line_answered l s.poll s.hold.value s.cause s.code h.is.moment h.is.wait h.rows h.is.poll_is h.is.is)
+headline_held l (Departing s) h = let k = h.keeps.rows.heard in
+    by_kept l k.turns s.poll.asked.value k.behind k.held k.told (PollsFor s.poll h.moment) s.hold h.keeps.attached h.keeps.holds (line_still l s.poll s.hold h.keeps.rows h.still)
+
+-- a session that keeps no hold
+
+past_headline : (l : LiveView) (o : Option Asked) (last : Last) → PastOf l.line l.charter l.seat l.reports.items o last → HasHeadline l
+past_headline l None last h = λ number c. absurd (none_in number (subst (λ (ns : List ℕ). Contains ns number) (ap numbers_of h.holds) c))
+past_headline l (Some asked) last h =
+    line_turns l l.charter h.turns asked h.behind h.held [] [] (append-nil (reports_of (holds_of l.seat)) ∙ sym (none_reports l h.holds) ∙ h.told ∙ sym (append-nil (reports_before h.turns))) None h.attaches
+
+pub headline_free : (l : LiveView) (stage : Stage) → Told l stage → HasHeadline l
+headline_free l stage t = past_headline l (asked_in stage) (last_of stage t.given) t.talks
+
+-- at an end
+
+module _ (l : LiveView) (same : l.reports.items ≡ reports_of (holds_of l.seat)) where
+  stream_headline : (g : Grant) (rows : Granting l g) (e : SessionEnd) (y : Why) → HeldEnds l rows.heard.turns g e y → HasHeadline l
+  stream_headline g rows e y says = by_says (λ hold own at follows. by_reported l rows.heard.turns g.asked.value rows.heard.behind rows.heard.held rows.heard.told (AsksFor g) hold own at same (streamed (g, rows, follows))) says
+    where
+      by_says : ((hold : KeptView) → IsLastHold l hold → HasAttached l rows.heard.turns (AsksFor g) → FollowsHold l g hold.number → HasHeadline l) → HeldEnds l rows.heard.turns g e y → HasHeadline l
+      by_says last (full_sent h bytes rest) = by_declined l rows.heard.turns g.asked.value rows.heard.behind rows.heard.held rows.heard.told (AsksFor g) h
+      by_says last (full_gone h bytes failed) = by_declined l rows.heard.turns g.asked.value rows.heard.behind rows.heard.held rows.heard.told (AsksFor g) h
+      by_says last (full_wanting h bytes) = by_declined l rows.heard.turns g.asked.value rows.heard.behind rows.heard.held rows.heard.told (AsksFor g) h
+      by_says last (unattached_wanting h) = by_unattached l rows.heard.turns g.asked.value rows.heard.behind rows.heard.held rows.heard.told h
+      by_says last (unattached_worn h worn) = by_unattached l rows.heard.turns g.asked.value rows.heard.behind rows.heard.held rows.heard.told h
+      by_says last (told_sent hold cause h rest) = last hold h.own h.attached (follows_finished l g hold cause h.finished)
+      by_says last (told_gone hold cause h failed) = last hold h.own h.attached (follows_finished l g hold cause h.finished)
+      by_says last (told_wanting hold cause h) = last hold h.own h.attached (follows_stopped l g hold (Some cause) h.stopped)
+      by_says last (kept_worn hold attached own s worn) = last hold own attached (follows_stream l g hold s)
+      by_says last (leaving_worn hold parting attached own s worn) = last hold own attached (follows_leaves parting l g hold s)
+      by_says last (let_go hold parting attached own detached s) = last hold own attached (follows_left parting l g hold s)
+
+  poll_headline : (p : Poll) (rows : Polling l p) (e : SessionEnd) (y : Why) → PollEnds l rows.heard.turns p e y → HasHeadline l
+  poll_headline p rows e y says = by_says (λ Asks hold own at line. by_reported l rows.heard.turns p.asked.value rows.heard.behind rows.heard.held rows.heard.told Asks hold own at same line) says
+    where
+      by_says : ((Asks : HoldSpec → Type 0) (hold : KeptView) → IsLastHold l hold → HasAttached l rows.heard.turns Asks → HasLine l hold.number → HasHeadline l) → PollEnds l rows.heard.turns p e y → HasHeadline l
+      by_says last (denied_sent h bytes rest) = by_declined l rows.heard.turns p.asked.value rows.heard.behind rows.heard.held rows.heard.told (MayPoll p) h
+      by_says last (denied_gone h bytes failed) = by_declined l rows.heard.turns p.asked.value rows.heard.behind rows.heard.held rows.heard.told (MayPoll p) h
+      by_says last (denied_wanting h bytes) = by_declined l rows.heard.turns p.asked.value rows.heard.behind rows.heard.held rows.heard.told (MayPoll p) h
+      by_says last (unbegun_wanting h) = by_unattached l rows.heard.turns p.asked.value rows.heard.behind rows.heard.held rows.heard.told h
+      by_says last (unbegun_worn h worn) = by_unattached l rows.heard.turns p.asked.value rows.heard.behind rows.heard.held rows.heard.told h
+      by_says last (answered_sent hold cause code h rest) = last (PollsFor p h.moment) hold h.own h.attached (line_answered l p hold cause code h.moment h.wait rows h.poll_is h.is)
+      by_says last (answered_gone hold cause code h failed) = last (PollsFor p h.moment) hold h.own h.attached (line_answered l p hold cause code h.moment h.wait rows h.poll_is h.is)
+      by_says last (unput hold cause h) = last (PollsFor p h.moment) hold h.own h.attached (line_unput l p hold cause h.moment h.wait rows h.poll_is h.is)
+      by_says last (overflowed hold h rest) = last (PollsFor p h.moment) hold h.own h.attached (line_overflowed l p hold h.moment h.wait rows h.poll_is h.is)
+      by_says last (unrepeated r h) = last (PollsFor p h.moment) r.hold h.own h.attached (line_retried l p r h.moment h.wait rows h.poll_is h.is)
+      by_says last (waiting_worn now hold attached own s worn) = last (PollsFor p now) hold own attached (line_still l p hold rows s)
+      by_says last (departed now hold parting share attached own detached is asked_for bytes by) = last (PollsFor p now) hold own attached (line_nothing l p rows hold.number share is.there asked_for bytes)
 
 pub headline_end : (l : LiveView) (ended : Ended) → PhaseFinishes l ended → HasHeadline l
-headline_end l ended (inl f) = headline_none l f.told.stays.holds
-headline_end l ended (inr f) = ends_headline l f.grant ended.end ended.why f.rows f.says
+headline_end l ended (inl f) = past_headline l (asked_in f.stage) (hung_up (last_of f.stage f.told.given)) f.told.talks
+headline_end l ended (inr f) = by_kind f.by
+  where
+    by_kind : StreamFinishes l ended ⊎ PollFinishes l ended → HasHeadline l
+    by_kind (inl s) = stream_headline l f.reported s.grant s.rows ended.end ended.why s.says
+    by_kind (inr p) = poll_headline l f.reported p.poll p.rows ended.end ended.why p.says

@@ -81,7 +81,7 @@ module _ (v : LiveView) (s : AttachingStage) (told : AttachingTold v s) (t : Sea
   abbrev now : LiveView
   now = with_held v v.wire v.watch t r
 
-  rows : Granting now s.grant
+  abbrev rows : Granting now s.grant
   rows = granting_seat v t r s.grant told.rows moved row (same_more v.reports.items r.items items)
 
   went_on : Goes v now
@@ -365,7 +365,7 @@ module _ (v : LiveView) (s : StreamingStage) (h : StreamingTold v s) (u : WatchV
   pub stream_went : Goes v polled_now
   stream_went = goes_on v x u t v.reports p.wire uses.moved.start p.seat
 
-  stream_rows : Granting polled_now s.grant
+  abbrev stream_rows : Granting polled_now s.grant
   stream_rows = granting_on v x u t v.reports s.grant h.keeps.rows p.wire p.heard p.received (calls_on v.watch u now uses h.keeps.rows.heard.calls) (times h.keeps.rows.heard.times) p.seat p.row (none_more v.reports.items)
 
   stream_attached : HasAttached polled_now h.keeps.rows.heard.turns (AsksFor s.grant)
@@ -508,7 +508,7 @@ module _ (v : LiveView) (r : Roomy HoldReport) where
   pub reported_went : Goes v reported_now
   reported_went = goes_on v v.wire v.watch v.seat r (moved_wire_same v.wire) refl (moved_seat_same v.seat)
 
-  reported_rows : (g : Grant) → Granting v g → IsPrefix v.reports.items r.items → Granting reported_now g
+  abbrev reported_rows : (g : Grant) → Granting v g → IsPrefix v.reports.items r.items → Granting reported_now g
   reported_rows g h more = granting_seat v v.seat r g h (moved_seat_same v.seat) (λ row. row) more
 
   -- one report more
@@ -531,16 +531,16 @@ module _ (v : LiveView) (r : Roomy HoldReport) where
   pub over_released : HoldsRow v.seat r.items none → All IsReleased (holds_of v.seat)
   over_released row = subst (All IsReleased) (sym row.stands) row.released
 
+  abbrev Closes : Grant → KeptView → EndCause → Type 0
+  Closes g k d = (rows : Granting reported_now g) × IsClosed reported_now rows.heard.turns g k d
+
   pub closes : (s : StreamingStage) (cause : EndCause) → HasClosed v s cause → HoldsRow v.seat r.items none → IsPrefix v.reports.items r.items → (c : ClosingStage) → c.grant ≡ s.grant → c.hold.value ≡ s.stream.hold → c.cause ≡ cause → HeldLeads v reported_now 2 (Go (Closing c))
   closes s cause h row more c grant hold is = record { moved = reported_went; to = (told_now, omega arith, tt) }
     where
-      abbrev Parts : Grant → KeptView → EndCause → Type 0
-      Parts g k d = (rows : Granting reported_now g) × IsClosed reported_now rows.heard.turns g k d
-
-      by_parts : (g : Grant) (k : KeptView) (d : EndCause) → g ≡ s.grant → k ≡ s.stream.hold → d ≡ cause → Parts g k d
+      by_parts : (g : Grant) (k : KeptView) (d : EndCause) → g ≡ s.grant → k ≡ s.stream.hold → d ≡ cause → Closes g k d
       by_parts g k d e1 e2 e3 =
-          subst (λ (a : Grant). Parts a k d) (sym e1)
-          (subst (λ (a : KeptView). Parts s.grant a d) (sym e2) (subst (λ (a : EndCause). Parts s.grant s.stream.hold a) (sym e3) (
+          subst (λ (a : Grant). Closes a k d) (sym e1)
+          (subst (λ (a : KeptView). Closes s.grant a d) (sym e2) (subst (λ (a : EndCause). Closes s.grant s.stream.hold a) (sym e3) (
             reported_rows s.grant h.rows more,
             record {
               attached = attached_at v reported_now h.rows.heard.turns (AsksFor s.grant) refl h.attached;
@@ -616,7 +616,7 @@ module _ (v : LiveView) (s : LeavingStage) (h : LeavingTold v s) (t : SeatView) 
   pub gone_went : Goes v gone_now
   gone_went = goes_on v v.wire v.watch t v.reports (moved_wire_same v.wire) refl moved
 
-  gone_rows : Granting gone_now s.grant
+  abbrev gone_rows : Granting gone_now s.grant
   gone_rows = granting_seat v t v.reports s.grant h.keeps.rows moved row (none_more v.reports.items)
 
   module _ (attaches : (specs : List HoldSpec) (refused : Option HoldSpec) → AttachRow v.seat specs refused → AttachRow t specs refused) where

@@ -7,5 +7,6 @@ pub mod Granting
 pub mod Collecting
 pub mod Keeping
 pub mod Headlining
+pub mod Awaiting
 pub mod Turning
 pub mod Ending

@@ -123,9 +123,9 @@ held_rank (Declining s) = 1
 held_rank (Streaming s) = 2
 held_rank (Closing s) = 1
 held_rank (Leaving s) = 1
-held_rank (Beginning s) = 3
+held_rank (Beginning s) = 5
 held_rank (Denying s) = 1
-held_rank (Waiting s) = 2
+held_rank (Waiting s) = 4
 held_rank (Answering s) = 1
 held_rank (Departing s) = 1
 
@@ -250,7 +250,7 @@ pub record AsksAgain (v w : LiveView) (s : AskingStage) : Type 0 where
 abbrev pub HeldLeadsTo : LiveView → LiveView → ℕ → HeldNext → Type 0
 HeldLeadsTo v w n (Go stage) = HeldTold w stage × (held_rank stage < n) × GoesReported v w stage
 HeldLeadsTo v w n (Wait stage) = HeldTold w stage × HeldPends v w stage
-HeldLeadsTo v w n (Again stage) = AsksAgain v w stage
+HeldLeadsTo v w n (Again stage) = AsksAgain v w stage × (3 < n)
 HeldLeadsTo v w n (End ended) = HeldFinishes w ended
 
 pub record HeldLeads (v w : LiveView) (n : ℕ) (next : HeldNext) : Type 0 where

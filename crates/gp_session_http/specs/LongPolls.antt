@@ -15,7 +15,7 @@ use Rattle.gp_session.specs.Wires.{BytesRow, Sent, exactly}
 use Rattle.gp_session_hold.specs.Rows.{KeptView, IsKept, IsOver, none, kept, over, HoldsRow, EntriesRow, DetachedRow}
 use Rattle.gp_session_wait.specs.Openings.{may_repeat}
 use Rattle.gp_session_wait.specs.Views.{WaitView}
-use Rattle.gp_session_wait.specs.Waits.{Waits, IsAnswered, IsUnput, IsRetried, IsOverflowed}
+use Rattle.gp_session_wait.specs.Waits.{Waits, HasForm, IsAnswered, IsUnput, IsRetried, IsOverflowed}
 use Rattle.gp_session_wait.specs.declared.wait.Repeat.{Repeat}
 use Rattle.gp_session_http.specs.declared.answering.Answering.{Answering as AnsweringStage}
 use Rattle.gp_session_http.specs.declared.asked.Asked.{Asked}
@@ -77,13 +77,16 @@ pub record IsPollOf (p : Poll) (now : ℕ) (v : WaitView) : Type 0 where
   pub own_is : v.own ≡ own_of p.answer.value
   pub repeats_is : v.repeats ≡ p.asked.value.repeats
 
--- it waits, and nothing is sent
-pub record WaitingTold (l : LiveView) (s : WaitingStage) : Type 0 where
-  pub keeps : KeepsPoll l s.poll s.since.value s.wait.hold
+-- it waits since that moment, and nothing is sent. The request is kept where it may be repeated
+pub record WaitsPoll (l : LiveView) (p : Poll) (v : WaitView) (again : Option Asked) (now : ℕ) : Type 0 where
+  pub keeps : KeepsPoll l p now v.hold
   pub served : IsServed l.seat
-  pub poll_is : IsPollOf s.poll s.since.value s.wait
-  pub waits : Waits s.wait l.wire l.seat
-  pub again : s.again ≡ kept_for s.poll.asked.value (may_repeat s.wait.channel s.wait.repeats)
+  pub poll_is : IsPollOf p now v
+  pub waits : Waits v l.wire l.seat
+  pub again_is : again ≡ kept_for p.asked.value (may_repeat v.channel v.repeats)
+
+abbrev pub WaitingTold : LiveView → WaitingStage → Type 0
+WaitingTold l s = WaitsPoll l s.poll s.wait s.again s.since.value
 
 -- its end was told, it is reported, and it is so
 pub record PollIs (l : LiveView) (turns : List Turn) (p : Poll) (hold : KeptView) (Is : WaitView → Type 0) : Type 0 where
@@ -96,15 +99,20 @@ pub record PollIs (l : LiveView) (turns : List Turn) (p : Poll) (hold : KeptView
   pub poll_is : IsPollOf p moment wait
   pub is : Is wait
 
-pub record AnsweringTold (l : LiveView) (s : AnsweringStage) : Type 0 where
-  pub rows : Polling l s.poll
+-- its answer is sent or waits
+pub record AnswersPoll (l : LiveView) (p : Poll) (hold : KeptView) (cause : EndCause) (code : ℕ) : Type 0 where
+  pub rows : Polling l p
   pub served : IsServed l.seat
-  pub is : PollIs l rows.heard.turns s.poll s.hold.value (λ (v : WaitView). IsAnswered v l.wire l.seat s.hold.value s.cause s.code)
+  pub is : PollIs l rows.heard.turns p hold (λ (v : WaitView). IsAnswered v l.wire l.seat hold cause code)
+
+abbrev pub AnsweringTold : LiveView → AnsweringStage → Type 0
+AnsweringTold l s = AnswersPoll l s.poll s.hold.value s.cause s.code
 
 -- the hold is kept, and nothing is sent
-pub record StillPolls (l : LiveView) (hold : KeptView) : Type 0 where
+pub record StillPolls (l : LiveView) (p : Poll) (hold : KeptView) : Type 0 where
   pub share : Share
   pub is : IsKept l.seat hold share
+  pub asked_for : MayPoll p share.spec
   pub bytes : Sent l.wire []
 
 -- why a hold is let go
@@ -116,7 +124,7 @@ pub record DepartingTold (l : LiveView) (s : DepartingStage) : Type 0 where
   pub moment : ℕ
   pub keeps : KeepsPoll l s.poll moment s.hold
   pub served : IsServed l.seat
-  pub still : StillPolls l s.hold
+  pub still : StillPolls l s.poll s.hold
   pub by : PartsBy s.parting l
 
 -- why a session ends so with a long poll: no hold was made, and its refusal was sent, or the client is gone, or memory is wanting;
@@ -134,8 +142,8 @@ pub data PollEnds (l : LiveView) (turns : List Turn) (p : Poll) : SessionEnd →
   unput : (hold : KeptView) (cause : EndCause) → PollIs l turns p hold (λ (v : WaitView). IsUnput v l.wire l.seat hold cause) → PollEnds l turns p NoMemory why.Nothing
   overflowed : (hold : KeptView) → PollIs l turns p hold (λ (v : WaitView). IsOverflowed v l.wire l.seat hold) → l.wire.rest ≡ [] → PollEnds l turns p (Cut Overflow) why.Nothing
   unrepeated : (r : Repeat) → PollIs l turns p r.hold (λ (v : WaitView). IsRetried v l.wire l.seat r) → PollEnds l turns p NoMemory why.Nothing
-  waiting_worn : (now : ℕ) (hold : KeptView) → HasAttached l turns (PollsFor p now) → IsLastHold l hold → StillPolls l hold → IsWorn l.seat → PollEnds l turns p Worn why.Nothing
-  departed : (now : ℕ) (hold : KeptView) (parting : Parting) (share : Share) → HasAttached l turns (PollsFor p now) → IsLastHold l hold → DetachedRow l.seat hold.number → IsOver l.seat hold None share → Sent l.wire [] → PartsBy parting l
+  waiting_worn : (now : ℕ) (hold : KeptView) → HasAttached l turns (PollsFor p now) → IsLastHold l hold → StillPolls l p hold → IsWorn l.seat → PollEnds l turns p Worn why.Nothing
+  departed : (now : ℕ) (hold : KeptView) (parting : Parting) (share : Share) → HasAttached l turns (PollsFor p now) → IsLastHold l hold → DetachedRow l.seat hold.number → IsOver l.seat hold None share → MayPoll p share.spec → Sent l.wire [] → PartsBy parting l
       → PollEnds l turns p (end_of parting) why.Nothing
 
 -- the moment at which a hold is attached is that of the poll
@@ -186,7 +194,7 @@ pub record HasAnswered (l : LiveView) (p : Poll) (hold : KeptView) (cause : EndC
 pub record StaysPolling (l : LiveView) (p : Poll) (hold : KeptView) : Type 0 where
   pub moment : ℕ
   pub keeps : KeepsPoll l p moment hold
-  pub still : StillPolls l hold
+  pub still : StillPolls l p hold
   pub worn : IsWorn l.seat
 
 pub data HasStopped (l : LiveView) (p : Poll) (hold : KeptView) : Option EndCause → SessionEnd → Type 0 where
@@ -197,6 +205,7 @@ pub data HasStopped (l : LiveView) (p : Poll) (hold : KeptView) : Option EndCaus
 -- items were missed, and the request is kept where it may be repeated
 pub record IsMissed (l : LiveView) (p : Poll) (again : Option Asked) (r : Repeat) (v : WaitView) : Type 0 where
   pub retried : IsRetried v l.wire l.seat r
+  pub form : HasForm v
   pub kept_is : again ≡ kept_for p.asked.value (may_repeat v.channel v.repeats)
 
 pub record HasRepeated (l : LiveView) (p : Poll) (again : Option Asked) (r : Repeat) : Type 0 where
@@ -213,6 +222,7 @@ pub record HasGone (l : LiveView) (s : DepartingStage) : Type 0 where
   pub room : 0 < l.reports.spare
   pub share : Share
   pub is : IsOver l.seat s.hold None share
+  pub asked_for : MayPoll s.poll share.spec
   pub bytes : Sent l.wire []
   pub by : PartsBy s.parting l
 

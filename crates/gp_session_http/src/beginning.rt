@@ -32,7 +32,7 @@ impl Beginning {
         live: &mut Live<'h, L, D, C>,
     ) -> HeldNext
         requires told { HeldTold live.old (held.Beginning self) }
-        ensures leads { HeldLeads live.old live.new 3 result }
+        ensures leads { HeldLeads live.old live.new 5 result }
         ensures timed { IsTimed live.new.watch result }
     {
         let now = live.watch.moment();
@@ -42,12 +42,15 @@ impl Beginning {
             again,
         } = self;
         match opening.attach(&mut live.seat, &mut live.reports, now) {
-            Began::Waits(wait) => HeldNext::Go(Held::Waiting(Waiting {
-                poll,
-                wait,
-                again,
-                since: Snapshot::of(&now),
-            })),
+            Began::Waits(wait) => {
+                let since = Snapshot::of(&now);
+                HeldNext::Go(Held::Waiting(Waiting {
+                    poll,
+                    wait,
+                    again,
+                    since,
+                }))
+            }
             Began::Full => {
                 drop(again);
                 deny(live, poll)
@@ -66,7 +69,7 @@ impl Beginning {
 /// Refuses the request, since no hold was made.
 fn deny<'h, L: Link, D: Dial, C: Clock>(live: &mut Live<'h, L, D, C>, poll: Poll) -> HeldNext
     requires told { IsDeniedAt live.old poll }
-    ensures leads { HeldLeads live.old live.new 3 result }
+    ensures leads { HeldLeads live.old live.new 5 result }
     ensures timed { IsTimed live.new.watch result }
 {
     let refusal = Refusal::Unavailable;

@@ -228,7 +228,9 @@ impl Asking {
         ensures leads { Leads live.old live.new 2 result }
     {
         let Asking { asked, exchange } = self;
-        match pose(live.alloc, asked, &exchange, answer) {
+        let posed = pose(live.alloc, asked, &exchange, answer);
+        drop(exchange);
+        match posed {
             Ok(beginning) => Next::Hold(Held::Beginning(beginning)),
             Err(_) => Next::End(end_with(SessionEnd::NoMemory)),
         }

@@ -39,7 +39,7 @@ impl Waiting {
         live: &mut Live<'h, L, D, C>,
     ) -> HeldNext
         requires told { HeldTold live.old (held.Waiting self) }
-        ensures leads { HeldLeads live.old live.new 2 result }
+        ensures leads { HeldLeads live.old live.new 4 result }
     {
         let now = live.watch.moment();
         let Waiting {
@@ -110,7 +110,7 @@ fn answer<'h, L: Link, D: Dial, C: Clock>(
     code: u16,
 ) -> HeldNext
     requires told { HasAnswered live.old poll hold cause code }
-    ensures leads { HeldLeads live.old live.new 2 result }
+    ensures leads { HeldLeads live.old live.new 4 result }
 {
     let said = Snapshot::of(&hold);
     hold.report(Some(cause), &mut live.reports);
@@ -131,7 +131,7 @@ fn stop<'h, L: Link, D: Dial, C: Clock>(
     end: SessionEnd,
 ) -> HeldNext
     requires told { HasStopped live.old poll hold told end }
-    ensures leads { HeldLeads live.old live.new 2 result }
+    ensures leads { HeldLeads live.old live.new 4 result }
 {
     drop(poll);
     hold.report(told, &mut live.reports);
@@ -146,7 +146,7 @@ fn repeat<'h, L: Link, D: Dial, C: Clock>(
     repeated: Repeat,
 ) -> HeldNext
     requires told { HasRepeated live.old poll again repeated }
-    ensures leads { HeldLeads live.old live.new 2 result }
+    ensures leads { HeldLeads live.old live.new 4 result }
 {
     forward_law();
     let Repeat { hold, last, count } = repeated;

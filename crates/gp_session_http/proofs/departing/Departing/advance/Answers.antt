@@ -1,0 +1,53 @@
+use Rattle.std.proofs.Common.{sym, subst, arith, refl}
+use Rattle.gp_session_http.specs.LongPolls.{DepartingTold}
+use Rattle.gp_session_http.specs.Views.{LiveView}
+use Rattle.gp_session_http.proofs.Granting.{held_live, held_from, with_held}
+use Rattle.gp_session_http.proofs.Awaiting.{depart_went, depart_gone, depart_worn, depart_busy}
+use Rattle.gp_session_http.proofs.departing.Departing.advance.Goals as goal
+
+pub let_go-requires : goal.let_go-requires
+let_go-requires g c =
+    let v : LiveView = record { wire = c.live.inside.wire; line = c.live.inside.line; watch = c.live.inside.watch; seat = c.live.inside.seat; charter = record { rules = c.live.inside.routes.now; signer = c.live.inside.signer.now; tag = c.live.inside.tag }; reports = c.live.inside.reports } in
+    let s = c.args.self in
+    let h : DepartingTold v s = subst (λ (x : LiveView). DepartingTold x s) (sym c.live.view_is) c.requires.told in
+    (h.still.share, h.still.is)
+
+pub report-requires : goal.report-requires
+report-requires g c =
+    let v : LiveView = record { wire = c.live.inside.wire; line = c.live.inside.line; watch = c.live.inside.watch; seat = c.live.inside.seat; charter = record { rules = c.live.inside.routes.now; signer = c.live.inside.signer.now; tag = c.live.inside.tag }; reports = c.live.inside.reports } in
+    let s = c.args.self in
+    let h : DepartingTold v s = subst (λ (x : LiveView). DepartingTold x s) (sym c.live.view_is) c.requires.told in
+    let e = c.in-Gone.ensures in
+    record { told = depart_gone v s h c.let_go.new.seat e.moved e.row e.attaches (e.entries h.keeps.entries) (e.holds v.reports.items h.keeps.holds) e.leaves c.end-end.result c.end-end.ensures }
+
+pub returns-in-Gone : goal.returns-in-Gone
+returns-in-Gone g c =
+    let v : LiveView = record { wire = c.live.inside.wire; line = c.live.inside.line; watch = c.live.inside.watch; seat = c.live.inside.seat; charter = record { rules = c.live.inside.routes.now; signer = c.live.inside.signer.now; tag = c.live.inside.tag }; reports = c.live.inside.reports } in
+    let s = c.args.self in
+    let h : DepartingTold v s = subst (λ (x : LiveView). DepartingTold x s) (sym c.live.view_is) c.requires.told in
+    let e = c.in-Gone.ensures in
+    record { leads = held_live v c.args.live.now _ 1 _ c.live.view_is (held_from v (with_held v v.wire v.watch c.let_go.new.seat v.reports) _ 1 1 _ (depart_went v s h c.let_go.new.seat e.moved e.row e.attaches) refl (omega arith) c.report.ensures.leads) }
+
+pub returns-in-Busy : goal.returns-in-Busy
+returns-in-Busy g c =
+    let v : LiveView = record { wire = c.live.inside.wire; line = c.live.inside.line; watch = c.live.inside.watch; seat = c.live.inside.seat; charter = record { rules = c.live.inside.routes.now; signer = c.live.inside.signer.now; tag = c.live.inside.tag }; reports = c.live.inside.reports } in
+    let s = c.args.self in
+    let h : DepartingTold v s = subst (λ (x : LiveView). DepartingTold x s) (sym c.live.view_is) c.requires.told in
+    let e = c.in-Busy.ensures in
+    record { leads = held_live v c.args.live.now _ 1 _ c.live.view_is (depart_busy v s h c.let_go.new.seat e.moved e.row e.attaches (e.entries h.keeps.entries) (e.holds v.reports.items h.keeps.holds) e.leaves e.gone.free e.gone.busy) }
+
+pub report-requires-in-Worn : goal.report-requires-in-Worn
+report-requires-in-Worn g c =
+    let v : LiveView = record { wire = c.live.inside.wire; line = c.live.inside.line; watch = c.live.inside.watch; seat = c.live.inside.seat; charter = record { rules = c.live.inside.routes.now; signer = c.live.inside.signer.now; tag = c.live.inside.tag }; reports = c.live.inside.reports } in
+    let s = c.args.self in
+    let h : DepartingTold v s = subst (λ (x : LiveView). DepartingTold x s) (sym c.live.view_is) c.requires.told in
+    let e = c.in-Worn.ensures in
+    record { told = depart_worn v s h c.let_go.new.seat e.moved e.row e.attaches (e.entries h.keeps.entries) (e.holds v.reports.items h.keeps.holds) e.leaves e.gone.worn }
+
+pub returns-in-Worn : goal.returns-in-Worn
+returns-in-Worn g c =
+    let v : LiveView = record { wire = c.live.inside.wire; line = c.live.inside.line; watch = c.live.inside.watch; seat = c.live.inside.seat; charter = record { rules = c.live.inside.routes.now; signer = c.live.inside.signer.now; tag = c.live.inside.tag }; reports = c.live.inside.reports } in
+    let s = c.args.self in
+    let h : DepartingTold v s = subst (λ (x : LiveView). DepartingTold x s) (sym c.live.view_is) c.requires.told in
+    let e = c.in-Worn.ensures in
+    record { leads = held_live v c.args.live.now _ 1 _ c.live.view_is (held_from v (with_held v v.wire v.watch c.let_go.new.seat v.reports) _ 1 1 _ (depart_went v s h c.let_go.new.seat e.moved e.row e.attaches) refl (omega arith) c.report-in-Worn.ensures.leads) }
