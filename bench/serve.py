@@ -216,15 +216,13 @@ class Streams:
 
     def __init__(self, port, count):
         self.poll, self.links, self.heard = select.epoll(), {}, {}
-        for number in range(count):
+        for _ in range(count):
             link = socket.create_connection(("127.0.0.1", port), 10)
             link.sendall(STREAM)
             link.setblocking(False)
             self.links[link.fileno()] = link
             self.heard[link.fileno()] = b""
             self.poll.register(link.fileno(), select.EPOLLIN)
-            if number % 100 == 99:
-                self.hear(lambda text: b"\r\n\r\n" in text)
         self.hear(lambda text: b"\r\n\r\n" in text)
 
     def hear(self, is_enough):

@@ -1,4 +1,4 @@
-ghost use Rattle.std.specs.Prelude.{◌≡◌};
+ghost use Rattle.std.specs.Prelude.{◌≡◌, false};
 ghost use Rattle.gp_session.specs.Seats.{IsFresh};
 ghost use Rattle.gp_session_http.specs.Polls.{HasEnded};
 
@@ -65,25 +65,29 @@ impl Origin {
 /// A session over devices in memory.
 type MemSession<'h> = HttpSession<'h, MemLink, MemDial, MemClock>;
 
-/// Polls a session at most so often, and gives its outcome, if it ended.
+/// Polls a session at most so often, and keeps its outcome where it ended. It says whether it did.
 fn poll_on<'h, L: Link, D: Dial, C: Clock>(
     session: &mut HttpSession<'h, L, D, C>,
     polls: usize,
-) -> Option<Outcome>
+    ended: &mut Option<Outcome>,
+) -> bool
     requires { HasEnded session.old → ⊥ }
-    ensures { result ≡ None → HasEnded session.new → ⊥ }
+    ensures { result ≡ false → HasEnded session.new → ⊥ }
 {
     for _poll in 0..polls {
         match session.poll() {
-            Polled::Ready(Finish::Done(outcome)) => return Some(outcome),
+            Polled::Ready(Finish::Done(outcome)) => {
+                *ended = Some(outcome);
+                return true;
+            }
             Polled::Ready(Finish::Upgrade(_)) => unreachable!(),
             Polled::Pending => {}
         }
     }
-    None
+    false
 }
 
-/// What each publisher of a list in turn is answered while the session of a client waits, and the outcome of that session, if it ended.
+/// What each publisher of a list in turn is answered while the session of a client waits. The outcome of that session is kept, if it ended.
 /// A publisher that comes behind the end isn't served.
 fn stay<'h>(
     alloc: Global,
@@ -92,18 +96,20 @@ fn stay<'h>(
     session: &mut MemSession<'h>,
     publishers: Vec<Body>,
     text: &mut String,
-) -> Result<Option<Outcome>, AllocError>
+    ended: &mut Option<Outcome>,
+) -> Result<(), AllocError>
     requires turn { first.old.turn ≡ hub.now }
     requires open { HasEnded session.old → ⊥ }
     ensures { first.new.turn ≡ first.old.turn }
 {
     for input in publishers {
-        if let Some(outcome) = poll_on(session, QUIET) {
-            return Ok(Some(outcome));
+        if poll_on(session, QUIET, ended) {
+            return Ok(());
         }
         publish(alloc, hub, first, input, text)?;
     }
-    Ok(poll_on(session, POLLS))
+    poll_on(session, POLLS, ended);
+    Ok(())
 }
 
 fn push(text: &mut String, line: String) -> Result<(), AllocError> {
@@ -200,8 +206,18 @@ pub fn visit_http(
     let tag = Body::empty(alloc);
     let mut text = String::new(alloc);
     let mut session = HttpSession::new(alloc, hub, pass, &routes, &signer, tag, link, dial, clock);
-    let outcome = stay(alloc, hub, first, &mut session, publishers, &mut text);
+    let mut outcome = None;
+    let stayed = stay(
+        alloc,
+        hub,
+        first,
+        &mut session,
+        publishers,
+        &mut text,
+        &mut outcome,
+    );
     let parts = session.parts();
-    show(alloc, &mut text, outcome?, parts)?;
+    stayed?;
+    show(alloc, &mut text, outcome, parts)?;
     Ok(text)
 }

@@ -1,3 +1,4 @@
+use Rattle.std.proofs.Common.{◌≡◌}
 use Rattle.gp_session_http.specs.Polls.{HasEnded}
 use Rattle.gp_visits.proofs.http.stay.Given as goal
 
