@@ -64,6 +64,20 @@ use Rattle.gp_session_hold.proofs.hold.KeptHold.TheSendSync as kept_hold
 use Rattle.gp_session_hold.specs.contracts.hold.KeptHold as KeptHold
 use Rattle.gp_session_hold.specs.contracts.stream.Stream as Stream
 use Rattle.gp_session_hold.specs.contracts.stream.Stream.TheInside as StreamInside
+use Rattle.gp_session_wait.proofs.answer.Answer.TheSendSync as own_answer
+use Rattle.gp_session_wait.proofs.opening.Opening.TheSendSync as poll_opening
+use Rattle.gp_session_wait.specs.contracts.seeking.LongPoll as LongPoll
+use Rattle.gp_session_wait.specs.contracts.seeking.LongPoll.TheInside as LongPollInside
+use Rattle.gp_session_wait.specs.contracts.wait.Wait as Wait
+use Rattle.gp_session_wait.specs.contracts.wait.Wait.TheInside as WaitInside
+use Rattle.gp_plain.specs.contracts.event.HoldSpec as HoldSpec
+use Rattle.gp_plain.proofs.name.Name.TheSendSync as name
+use Rattle.gp_session_http.specs.contracts.poll.Poll as Poll
+use Rattle.gp_session_http.specs.contracts.beginning.Beginning as Beginning
+use Rattle.gp_session_http.specs.contracts.denying.Denying as Denying
+use Rattle.gp_session_http.specs.contracts.waiting.Waiting as Waiting
+use Rattle.gp_session_http.specs.contracts.answering.Answering as HttpAnswering
+use Rattle.gp_session_http.specs.contracts.departing.Departing as Departing
 use Rattle.gp_maker.specs.contracts.client.Serving as Serving
 use Rattle.gp_maker.specs.contracts.publisher.Publishing as Publisher
 use Rattle.gp_session_http.proofs.asked.Asked.TheSendSync as asked
@@ -192,8 +206,32 @@ closing_send = declared_send Closing.the_type (grant_send, (kept KeptHold.the_ro
 pub leaving_send : IsSend Leaving.the_row
 leaving_send = declared_send Leaving.the_type (grant_send, (kept_hold.the_send, (parting.the_send, tt)))
 
+pub poll_send : IsSend Poll.the_row
+poll_send = declared_send Poll.the_type (kept Asked.the_row, (kept Exchange.the_row, (kept Answer.the_row, tt)))
+
+pub long_poll_send : IsSend LongPoll.the_row
+long_poll_send = view_send _ _ _ _ _ (declared_send LongPollInside.the_type (kept_hold.the_send, (kept HoldSpec.the_row, tt)))
+
+pub wait_send : IsSend Wait.the_row
+wait_send = view_send _ _ _ _ _ (declared_send WaitInside.the_type (search crosses depth 20, (long_poll_send, (own_answer.the_send, (search (name.the_send, as_row_send, sendable) depth 20, (search sendable depth 20, tt))))))
+
+pub beginning_send : IsSend Beginning.the_row
+beginning_send = declared_send Beginning.the_type (poll_send, (poll_opening.the_send, (search (asked.the_send, as_row_send, sendable) depth 20, tt)))
+
+pub denying_send : IsSend Denying.the_row
+denying_send = declared_send Denying.the_type (poll_send, tt)
+
+pub waiting_send : IsSend Waiting.the_row
+waiting_send = declared_send Waiting.the_type (poll_send, (wait_send, (search (asked.the_send, as_row_send, sendable) depth 20, (search (crosses, sendable) depth 20, tt))))
+
+pub http_answering_send : IsSend HttpAnswering.the_row
+http_answering_send = declared_send HttpAnswering.the_type (poll_send, (kept KeptHold.the_row, (end_cause.the_send, (search sendable depth 20, tt))))
+
+pub departing_send : IsSend Departing.the_row
+departing_send = declared_send Departing.the_type (poll_send, (kept_hold.the_send, (parting.the_send, tt)))
+
 pub held_send : IsSend Held.the_row
-held_send = variants_send Held.enum ((attaching_send, tt), ((declining_send, tt), ((streaming_send, tt), ((closing_send, tt), ((leaving_send, tt), tt)))))
+held_send = variants_send Held.enum ((attaching_send, tt), ((declining_send, tt), ((streaming_send, tt), ((closing_send, tt), ((leaving_send, tt), ((beginning_send, tt), ((denying_send, tt), ((waiting_send, tt), ((http_answering_send, tt), ((departing_send, tt), tt))))))))))
 
 pub http_stage_send : IsSend HttpStage.the_row
 http_stage_send = variants_send HttpStage.enum ((http_head.the_send, tt), ((http_body.the_send, tt), ((http_refusing_send, tt), ((asking_send, tt), ((gathering_send, tt), ((giving_send, tt), ((failing_send, tt), ((passing_send, tt), ((finishing_send, tt), tt)))))))))
