@@ -121,7 +121,7 @@ name_some Pong = omega arith
 name_some Close = omega arith
 name_some Disconnect = omega arith
 
-spelled_some : (event : WsEvent) (text : List ℕ) → IsSpelling event text → 0 < length text
+pub spelled_some : (event : WsEvent) (text : List ℕ) → IsSpelling event text → 0 < length text
 spelled_some event text spelling = omega (arith, name_some event.kind, ap length spelling.2, length-append (name_of event.kind) spelling.0)
 
 spelled_from : (events : List WsEvent) (bytes : List ℕ) (most place : ℕ) → AreSpelled events bytes → length bytes ≤ most → events_from most place bytes ≡ Ok events
