@@ -10,6 +10,8 @@ mod control;
 mod event;
 mod law;
 mod read;
+#[cfg(test)]
+mod tests;
 mod write;
 
 pub use control::{Control, read_control};
