@@ -5,6 +5,7 @@
 
 GET / is a page. POST /echo answers the body that it was sent. GET /count comes in chunks. GET /signed says whether the request
 carries a token that was signed with KEY. GET /events/CHANNEL asks by GRIP for a stream of the channel, behind the item `a`.
+GET /poll/CHANNEL asks for a long poll of the channel, of two seconds.
 """
 
 import base64
@@ -59,6 +60,9 @@ class Handler(BaseHTTPRequestHandler):
         elif self.path.startswith("/events/"):
             channel = self.path.removeprefix("/events/")
             self.answer(200, b"welcome\n", grip_hold="stream", grip_channel=f"{channel}; prev-id=a")
+        elif self.path.startswith("/poll/"):
+            channel = self.path.removeprefix("/poll/")
+            self.answer(200, b"nothing new\n", grip_hold="response", grip_channel=channel, grip_timeout="2")
         else:
             self.answer(404, b"The origin has no such page\n")
 
