@@ -6,6 +6,7 @@ use gp_hub::Hub;
 use gp_outside::{MemLink, Turn, Turns};
 use gp_plain::Body;
 use std::alloc::{AllocError, Global};
+use std::mem;
 
 /// One case: what the client sends, and what each call on its link does in turn.
 ///
@@ -14,7 +15,7 @@ use std::alloc::{AllocError, Global};
 /// another visit with the same input.
 ///
 /// With a line `routes TEXT`, a routes file, the client is one of HTTP, and then `key TEXT` is the key of tokens, `answer TEXT` more of what
-/// the origin of the first talk answers, and `connects N TURN`, `receives N TURN` and `asks N TURN` are turns of the dialer's calls. A line
+/// the origin of the first talk answers, `then` begins the answer of the next talk, and `connects N TURN`, `receives N TURN` and `asks N TURN` are turns of the dialer's calls. A line
 /// `publisher TEXT` is what a publisher sends that comes while the client waits: the first once the session has waited for long, each
 /// other one as long after the one before. `fill N` is so many bytes more of the answer, and `crowd` says that another pass has attached as
 /// many holds as a hub may have.
@@ -96,6 +97,10 @@ impl Case {
             "routes" => {
                 self.http = true;
                 self.origin.routes = unescaped(self.alloc, rest)?;
+            }
+            "then" => {
+                let answer = mem::replace(&mut self.origin.answer, Vec::new(self.alloc));
+                self.origin.answers.push(Body::from_vec(answer))?;
             }
             "fill" => {
                 for _byte in 0..rest.parse::<usize>().unwrap_or(0) {

@@ -20,12 +20,13 @@ const POLLS: usize = 100_000;
 /// The room of the dialer, in bytes.
 const ROOM: usize = 10_000;
 
-/// What a case says of the origins of a client: the routes file, the key of tokens, the answer of the first talk, and what each call
-/// on the dialer does in turn.
+/// What a case says of the origins of a client: the routes file, the key of tokens, the answers of talks, the last one apart, and what each
+/// call on the dialer does in turn.
 #[derive(Drop)]
 pub struct Origin {
     pub routes: Vec<u8>,
     pub key: Option<Body>,
+    pub answers: Vec<Body>,
     pub answer: Vec<u8>,
     pub connects: Vec<Turn>,
     pub reads: Vec<Turn>,
@@ -38,6 +39,7 @@ impl Origin {
         Origin {
             routes: Vec::new(alloc),
             key: None,
+            answers: Vec::new(alloc),
             answer: Vec::new(alloc),
             connects: Vec::new(alloc),
             reads: Vec::new(alloc),
@@ -49,7 +51,7 @@ impl Origin {
 impl Origin {
     /// The dialer that leads to it.
     fn dial(self, alloc: Global) -> Result<MemDial, AllocError> {
-        let mut answers = Vec::new(alloc);
+        let mut answers = self.answers;
         answers.push(Body::from_vec(self.answer))?;
         MemDial::new(
             alloc,
@@ -117,15 +119,21 @@ fn push(text: &mut String, line: String) -> Result<(), AllocError> {
     text.push('\n')
 }
 
-/// What was sent to the origin in the first talk.
+/// A session talks with origins at most so often.
+const TALKS: usize = 10;
+
+/// What was sent to the origin in each talk.
 fn show_asked(alloc: Global, text: &mut String, dial: &MemDial) -> Result<(), AllocError> {
-    match dial.sent(0) {
-        Some(bytes) => {
-            let asked = escaped(alloc, bytes)?;
-            push(text, format!(in alloc; "asked {asked}")?)
-        }
-        None => push(text, format!(in alloc; "asked nothing")?),
+    if dial.sent(0).is_none() {
+        return push(text, format!(in alloc; "asked nothing")?);
     }
+    for talk in 0..TALKS {
+        if let Some(bytes) = dial.sent(talk) {
+            let asked = escaped(alloc, bytes)?;
+            push(text, format!(in alloc; "asked {asked}")?)?;
+        }
+    }
+    Ok(())
 }
 
 /// What became of a hold.
