@@ -43,7 +43,7 @@ use Rattle.gp_session_hold.specs.Rows.{KeptView, IsKept, IsOver, IsCounted, IsRe
 use Rattle.gp_session_hold.specs.declared.attaching.Opened.TheVariants as opened
 use Rattle.gp_session_wait.specs.Openings.{spec_at, may_repeat, IsBegun}
 use Rattle.gp_session_wait.specs.Views.{OpeningView, WaitView}
-use Rattle.gp_session_wait.specs.Waits.{Waits, HasForm, PollsWait, IsSameWait, IsStillKept, IsAnswered, most_repeats}
+use Rattle.gp_session_wait.specs.Waits.{Waits, HasForm, PollsWait, IsSameWait, IsStillKept, IsAnswered, is_again, most_repeats}
 use Rattle.gp_session_wait.specs.declared.wait.Last.{Last as LastItem}
 use Rattle.gp_session_wait.specs.declared.wait.Repeat.{Repeat}
 use Rattle.gp_session_wait.specs.declared.wait.Polled.{Polled}
@@ -72,6 +72,7 @@ use Rattle.gp_session_http.specs.Trace.{BeginsWith, HeardAs, WasAsked, Told}
 use Rattle.gp_session_http.specs.Turns.{Turn, IsPollSpec, IsTurn, IsRepeatOf, Behind, again, AreHeld, aims_of, specs_before, reports_before}
 use Rattle.gp_session_http.specs.Views.{LiveView, Goes}
 use Rattle.gp_session_http.proofs.Rows.{no_parts}
+use Rattle.gp_session_http.proofs.Hearing.{none_waits}
 use Rattle.gp_session_http.proofs.Talking.{askable, over_rank}
 use Rattle.gp_session_http.proofs.Granting.{with_held, goes_on, heard_on, heard_none, calls_on, unattached_same, none_more, same_more, none_reported, none_kept}
 use Rattle.gp_session_http.proofs.Keeping.{attached_at, over_last, kept_last, last_at, with_client, went_client, declined_still, is_gone, reported_now, reported_went, over_more, kept_more, kept_reported, over_reported, over_released, parted}
@@ -367,26 +368,19 @@ module _ (v : LiveView) (r : Roomy HoldReport) where
   stops_poll p hold o e (worn k) says on ended is = poll_end v (reported_now v r) 4 p end.Worn why.Nothing (reported_went v r) (reported_poll p k.keeps.rows (kept_more v r hold k.keeps.holds says)) k.keeps.entries (kept_reported v r hold k.keeps.holds says) (λ no. absurd (no refl))
       (waiting_worn k.moment hold (attached_at v (reported_now v r) k.keeps.rows.heard.turns (PollsFor p k.moment) refl k.keeps.attached) (last_at v (reported_now v r) hold refl (kept_last v v.reports.items hold k.keeps.holds)) (record { share = k.still.share; is = k.still.is; asked_for = k.still.asked_for; bytes = k.still.bytes }) k.worn) ended is
   stops_poll p hold o e (cut k) says on ended is = poll_end v (reported_now v r) 4 p (end.Cut cause_is.Overflow) why.Nothing (reported_went v r) (reported_poll p k.rows (over_more v r hold (Some cause_is.Overflow) k.holds says)) k.entries (over_reported v r (on k.holds)) (λ _. over_released v r (on k.holds))
-      (overflowed hold (poll_is_over p hold (Some cause_is.Overflow) _ k (on k.holds)) (nothing_waits v.wire k.is.bytes)) ended is
-    where
-      append_none : (xs ys : List ℕ) → xs ++ ys ≡ [] → ys ≡ []
-      append_none [] ys e = e
-      append_none (y ∷ xs) ys e = let no : ⊥ = cc in absurd no
-
-      nothing_waits : (w : WireView) → Sent w [] → w.rest ≡ []
-      nothing_waits w b = append_none b.sent w.rest b.whole
+      (overflowed hold (poll_is_over p hold (Some cause_is.Overflow) _ k (on k.holds)) (none_waits v.wire k.is.bytes)) ended is
   stops_poll p hold o e (wanted cause k) says on ended is = poll_end v (reported_now v r) 4 p end.NoMemory why.Nothing (reported_went v r) (reported_poll p k.rows (over_more v r hold (Some cause) k.holds says)) (inl k.entries) (over_reported v r (on k.holds)) (λ _. over_released v r (on k.holds))
       (unput hold cause (poll_is_over p hold (Some cause) _ k (on k.holds))) ended is
+
+  parts_again : (q : Parting) → PartsBy q v → PartsBy q (reported_now v r)
+  parts_again Gone b = b
+  parts_again Wanting b = tt
 
   pub departs_by : (s : DepartingStage) (e : SessionEnd) → HasDeparted v s e → ((share : Share) → IsCounted s.hold share → None ≡ share.told → r.items ≡ v.reports.items ++ report s.hold.number share ∷ [])
       → (HoldsRow v.seat v.reports.items (over s.hold None) → HoldsRow v.seat r.items none) → (ended : Ended) → ended ≡ record { end = e; why = why.Nothing } → HeldLeads v (reported_now v r) 1 (End ended)
   departs_by s e (gone k) says on ended is = poll_end v (reported_now v r) 1 s.poll (end_of s.parting) why.Nothing (reported_went v r) (reported_poll s.poll k.rows (over_more v r s.hold None k.holds says)) (parted v r s.parting s.hold.number k.detached) (over_reported v r (on k.holds))
       (λ _. over_released v r (on k.holds))
       (departed k.moment s.hold s.parting k.share (attached_at v (reported_now v r) k.rows.heard.turns (PollsFor s.poll k.moment) refl k.attached) (last_at v (reported_now v r) s.hold refl (over_last v v.reports.items s.hold None k.holds)) k.detached k.is k.asked_for k.bytes (parts_again s.parting k.by)) ended is
-    where
-      parts_again : (q : Parting) → PartsBy q v → PartsBy q (reported_now v r)
-      parts_again Gone b = b
-      parts_again Wanting b = tt
   departs_by s e (stays k) says on ended is = poll_end v (reported_now v r) 1 s.poll end.Worn why.Nothing (reported_went v r) (reported_poll s.poll k.keeps.rows (kept_more v r s.hold k.keeps.holds says)) k.keeps.entries (kept_reported v r s.hold k.keeps.holds says) (λ no. absurd (no refl))
       (waiting_worn k.moment s.hold (attached_at v (reported_now v r) k.keeps.rows.heard.turns (PollsFor s.poll k.moment) refl k.keeps.attached) (last_at v (reported_now v r) s.hold refl (kept_last v v.reports.items s.hold k.keeps.holds)) (record { share = k.still.share; is = k.still.is; asked_for = k.still.asked_for; bytes = k.still.bytes }) k.worn) ended is
 
@@ -493,13 +487,13 @@ push_held s (t ∷ ts) turn h one = (h.0, push_held s ts turn h.1 one)
 aims_begun : (aims : List Aim) (x : ExchangeView) → rank x.place ≡ 5 → begun_with aims x ≡ aims ++ aim_of x.asked ∷ []
 aims_begun aims x five = ap (λ (n : ℕ). more_if n aims (aim_of x.asked)) five
 
+some_same : {A : Type 0} {x y : A} → Some x ≡ Some y → x ≡ y
+some_same e = cc
+
 same_spec : (p : Poll) (now : ℕ) (a b : HoldSpec) → PollsFor p now a → PollsFor p now b → a ≡ b
 same_spec p now a b f g =
     let instruct : f.instruct ≡ g.instruct = some_same (sym f.is ∙ g.is) in
-    some_same (sym f.spec_is ∙ ap (λ (i : Instruct). spec i [] now _) instruct ∙ g.spec_is)
-  where
-    some_same : {A : Type 0} {x y : A} → Some x ≡ Some y → x ≡ y
-    some_same e = cc
+    some_same (sym f.spec_is ∙ ap (λ (i : Instruct). spec i [] now (is_again p.asked.value.repeats)) instruct ∙ g.spec_is)
 
 may_be : (channel : Option (List ℕ)) (item : List ℕ) (repeats : ℕ) → channel ≡ Some item → repeats < most_repeats → may_repeat channel repeats ≡ true
 may_be channel item repeats is few = ap (λ (c : Option (List ℕ)). is_some c && nat_lt repeats most_repeats) is ∙ below repeats few
@@ -518,9 +512,6 @@ module _ (v : LiveView) (p : Poll) (kept_again : Option Asked) (r : Repeat) (h :
   asked_again_is o moment asked by is =
       let all : Some asked ≡ Some (asked_after r.last r.count moment p.asked.value) = sym is ∙ by ∙ ap (λ (k : Option Asked). option_map (asked_after r.last r.count moment) k) request_kept in
       some_same all
-    where
-      some_same : {x y : Asked} → Some x ≡ Some y → x ≡ y
-      some_same e = cc
 
   pub never_none : (o : Option Asked) (moment : ℕ) → o ≡ option_map (asked_after r.last r.count moment) kept_again → o ≡ None → ⊥
   never_none o moment by is =
@@ -580,7 +571,7 @@ module _ (v : LiveView) (p : Poll) (kept_again : Option Asked) (r : Repeat) (h :
           few = let few = missed.retried.few in let is_count = missed.retried.count in omega (arith, few, is_count);
           item = r.last;
           last_is = refl;
-          channel = (missed.form.channels, missed.form.prev, missed.form.deadline, _, missed.retried.ended.spec_is ∙ missed.form.spec_is, sym missed.form.channel_is ∙ missed.retried.channel);
+          channel = (missed.form.channels, missed.form.prev, missed.form.deadline, is_again h.over.wait.repeats, missed.retried.ended.spec_is ∙ missed.form.spec_is, sym missed.form.channel_is ∙ missed.retried.channel);
           id = missed.retried.id_is;
         }))
 

@@ -139,7 +139,7 @@ pub heard_none : (told : Option (List ℕ)) → told ≡ grown told []
 heard_none None = refl
 heard_none (Some bytes) = ap Some (sym (append-nil bytes))
 
-heard_twice : (told : Option (List ℕ)) (some more : List ℕ) → grown (grown told some) more ≡ grown told (some ++ more)
+pub heard_twice : (told : Option (List ℕ)) (some more : List ℕ) → grown (grown told some) more ≡ grown told (some ++ more)
 heard_twice None some more = refl
 heard_twice (Some bytes) some more = ap Some (append_assoc bytes some more)
 

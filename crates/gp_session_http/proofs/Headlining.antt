@@ -1,5 +1,5 @@
 -- What was sent of the holds of a session.
-use Rattle.std.proofs.Common.{◌≡◌, ℕ, ◌+◌, Bool, true, List, [], ◌∷◌, ◌++◌, length, map, slice_get, Option, Some, None, option_map, refl, sym, ap, ◌∙◌, subst, arith, append-nil, append_assoc, length-append, ◌⊎◌, inl, inr}
+use Rattle.std.proofs.Common.{◌≡◌, ℕ, suc, ◌+◌, Bool, true, List, [], ◌∷◌, ◌++◌, length, map, slice_get, Option, Some, None, option_map, refl, sym, ap, ◌∙◌, subst, arith, append-nil, append_assoc, length-append, ◌⊎◌, inl, inr}
 use Rattle.std.specs.Option.{option_map_or, option_to_list}
 use Rattle.std.specs.List.{All, Contains}
 use Rattle.std.proofs.lemmas.List.{map-append}
@@ -58,7 +58,7 @@ one_number : (n a : ℕ) → Contains (n ∷ []) a → n ≡ a
 one_number n a c = by_cases (Contains-push_cases [] n a c)
   where
     by_cases : Contains [] a ⊎ (n ≡ a) → n ≡ a
-    by_cases (inl none) = absurd (none_in a none)
+    by_cases (inl never) = absurd (none_in a never)
     by_cases (inr same) = same
 
 -- turns, and the numbers of their holds
@@ -76,16 +76,15 @@ numbers_before turns = map (λ (turn : Turn). turn.number) turns
 
 in_turns : (l : LiveView) (turns : List Turn) → All (λ (turn : Turn). turn.share.told ≡ Some Retry) turns → AreHeld l.seat turns → (number : ℕ) → Contains (numbers_before turns) number → WasRepeated l number
 in_turns l [] all h number c = absurd (none_in number c)
-in_turns l (turn ∷ turns) all h number c = by_place c
+in_turns l (turn ∷ turns) all h number c =
+    by_place (Contains-append_cases (turn.number ∷ []) (numbers_before turns) number c) (λ d. in_turns l turns (All-tail (λ (t : Turn). t.share.told ≡ Some Retry) turn turns all) h.1 number d)
   where
-    behind_it : Contains (numbers_before turns) number → WasRepeated l number
-    behind_it d = in_turns l turns (All-tail (λ (t : Turn). t.share.told ≡ Some Retry) turn turns all) h.1 number d
-
     it : turn.number ≡ number → WasRepeated l number
     it same = record { share = turn.share; there = subst (λ (n : ℕ). share_of_hold l.seat n ≡ Some turn.share) same h.0; told = All-head (λ (t : Turn). t.share.told ≡ Some Retry) turn turns all }
 
-    by_place : Contains (turn.number ∷ numbers_before turns) number → WasRepeated l number
-    by_place d = elim (Contains-append_cases (turn.number ∷ []) (numbers_before turns) number d) [ inl same ↦ it (one_number turn.number number same) | inr e ↦ behind_it e ]
+    by_place : Contains (turn.number ∷ []) number ⊎ Contains (numbers_before turns) number → (Contains (numbers_before turns) number → WasRepeated l number) → WasRepeated l number
+    by_place (inl here) on = it (one_number turn.number number here)
+    by_place (inr behind_it) on = on behind_it
 
 reported_numbers : (holds : List (ℕ × Share)) → map (λ (r : HoldReport). r.number) (reports_of holds) ≡ numbers_of holds
 reported_numbers [] = refl
@@ -95,41 +94,41 @@ turned_numbers : (turns : List Turn) → map (λ (r : HoldReport). r.number) (re
 turned_numbers [] = refl
 turned_numbers (t ∷ ts) = ap (λ (ns : List ℕ). t.number ∷ ns) (turned_numbers ts)
 
-same_front : (xs ys as bs : List HoldReport) → xs ++ as ≡ ys ++ bs → length xs ≡ length ys → xs ≡ ys
-same_front [] [] as bs e n = refl
-same_front [] (y ∷ ys) as bs e n = absurd (omega (arith, n))
-same_front (x ∷ xs) [] as bs e n = absurd (omega (arith, n))
-same_front (x ∷ xs) (y ∷ ys) as bs e n =
+same_front : (xs ys ms bs : List HoldReport) → xs ++ ms ≡ ys ++ bs → length xs ≡ length ys → xs ≡ ys
+same_front [] [] ms bs e n = refl
+same_front [] (y ∷ ys) ms bs e n = absurd (omega (arith, n))
+same_front (x ∷ xs) [] ms bs e n = absurd (omega (arith, n))
+same_front (x ∷ xs) (y ∷ ys) ms bs e n =
     let head : x ≡ y = cc in
-    let tail : xs ++ as ≡ ys ++ bs = cc in
-    ap (λ (r : HoldReport). r ∷ xs) head ∙ ap (λ (rs : List HoldReport). y ∷ rs) (same_front xs ys as bs tail (omega (arith, n)))
+    let tail : xs ++ ms ≡ ys ++ bs = cc in
+    ap (λ (r : HoldReport). r ∷ xs) head ∙ ap (λ (rs : List HoldReport). y ∷ rs) (same_front xs ys ms bs tail (omega (arith, n)))
 
 length_specs : (holds : List (ℕ × Share)) → length (specs_of holds) ≡ length holds
 length_specs [] = refl
-length_specs (h ∷ hs) = ap (λ (n : ℕ). n + 1) (length_specs hs)
+length_specs (h ∷ hs) = ap suc (length_specs hs)
 
 length_turns : (turns : List Turn) → length (specs_before turns) ≡ length turns
 length_turns [] = refl
-length_turns (t ∷ ts) = ap (λ (n : ℕ). n + 1) (length_turns ts)
+length_turns (t ∷ ts) = ap suc (length_turns ts)
 
 length_reports : (holds : List (ℕ × Share)) → length (reports_of holds) ≡ length holds
 length_reports [] = refl
-length_reports (h ∷ hs) = ap (λ (n : ℕ). n + 1) (length_reports hs)
+length_reports (h ∷ hs) = ap suc (length_reports hs)
 
 length_before : (turns : List Turn) → length (reports_before turns) ≡ length turns
 length_before [] = refl
-length_before (t ∷ ts) = ap (λ (n : ℕ). n + 1) (length_before ts)
+length_before (t ∷ ts) = ap suc (length_before ts)
 
 -- the first holds of a session are those of the turns
 
 pub before_count : (turns : List Turn) → length (reports_before turns) ≡ length turns
 before_count turns = length_before turns
 
-pub front_reports : (holds : List (ℕ × Share)) (turns : List Turn) (as bs : List HoldReport) → reports_of holds ++ as ≡ reports_before turns ++ bs → length holds ≡ length turns → reports_of holds ≡ reports_before turns
-front_reports holds turns as bs e n = same_front (reports_of holds) (reports_before turns) as bs e (length_reports holds ∙ n ∙ sym (length_before turns))
+pub front_reports : (holds : List (ℕ × Share)) (turns : List Turn) (ms bs : List HoldReport) → reports_of holds ++ ms ≡ reports_before turns ++ bs → length holds ≡ length turns → reports_of holds ≡ reports_before turns
+front_reports holds turns ms bs e n = same_front (reports_of holds) (reports_before turns) ms bs e (length_reports holds ∙ n ∙ sym (length_before turns))
 
-front_numbers : (holds : List (ℕ × Share)) (turns : List Turn) (as bs : List HoldReport) → reports_of holds ++ as ≡ reports_before turns ++ bs → length holds ≡ length turns → numbers_of holds ≡ numbers_before turns
-front_numbers holds turns as bs e n = sym (reported_numbers holds) ∙ ap (λ (rs : List HoldReport). map (λ (r : HoldReport). r.number) rs) (front_reports holds turns as bs e n) ∙ turned_numbers turns
+front_numbers : (holds : List (ℕ × Share)) (turns : List Turn) (ms bs : List HoldReport) → reports_of holds ++ ms ≡ reports_before turns ++ bs → length holds ≡ length turns → numbers_of holds ≡ numbers_before turns
+front_numbers holds turns ms bs e n = sym (reported_numbers holds) ∙ ap (λ (rs : List HoldReport). map (λ (r : HoldReport). r.number) rs) (front_reports holds turns ms bs e n) ∙ turned_numbers turns
 
 -- there are as many before the last as there are turns
 pub same_count : (holds before : List (ℕ × Share)) (last : ℕ × Share) (turns : List Turn) (spec : HoldSpec) → holds ≡ before ++ last ∷ [] → specs_of holds ≡ specs_before turns ++ spec ∷ [] → length before ≡ length turns
@@ -146,13 +145,13 @@ module _ (l : LiveView) (c : Charter) (turns : List Turn) (asked : Asked) (behin
   turn_line number d = repeated (in_turns l turns (all_retried c turns asked behind) held number d)
 
   -- a session all of whose holds are those of turns
-  line_turns : (as bs : List HoldReport) → reports_of (holds_of l.seat) ++ as ≡ reports_before turns ++ bs → (refused : Option HoldSpec) → AttachRow l.seat (specs_before turns) refused → HasHeadline l
-  line_turns as bs e refused row = λ number d.
-      turn_line number (subst (λ (ns : List ℕ). Contains ns number) (front_numbers (holds_of l.seat) turns as bs e (sym (length_specs (holds_of l.seat)) ∙ ap (λ (ss : List HoldSpec). length ss) row.holds ∙ length_turns turns)) d)
+  line_turns : (ms bs : List HoldReport) → reports_of (holds_of l.seat) ++ ms ≡ reports_before turns ++ bs → (refused : Option HoldSpec) → AttachRow l.seat (specs_before turns) refused → HasHeadline l
+  line_turns ms bs e refused row = λ number d.
+      turn_line number (subst (λ (ns : List ℕ). Contains ns number) (front_numbers (holds_of l.seat) turns ms bs e (sym (length_specs (holds_of l.seat)) ∙ ap (λ (ss : List HoldSpec). length ss) row.holds ∙ length_turns turns)) d)
 
   -- and one that has one more
-  line_last : (hold : KeptView) (last : IsLastHold l hold) (spec : HoldSpec) → AttachRow l.seat (specs_before turns ++ spec ∷ []) None → (as bs : List HoldReport) → reports_of last.before ++ as ≡ reports_before turns ++ bs → HasLine l hold.number → HasHeadline l
-  line_last hold last spec row as bs e line = λ number d. by_cases number (Contains-push_cases (numbers_of last.before) hold.number number (subst (λ (ns : List ℕ). Contains ns number) all d))
+  line_last : (hold : KeptView) (last : IsLastHold l hold) (spec : HoldSpec) → AttachRow l.seat (specs_before turns ++ spec ∷ []) None → (ms bs : List HoldReport) → reports_of last.before ++ ms ≡ reports_before turns ++ bs → HasLine l hold.number → HasHeadline l
+  line_last hold last spec row ms bs e line = λ number d. by_cases number (Contains-push_cases (numbers_of last.before) hold.number number (subst (λ (ns : List ℕ). Contains ns number) all d))
     where
       all : numbers_of (holds_of l.seat) ≡ numbers_of last.before ++ hold.number ∷ []
       all = ap numbers_of last.all ∙ map-append (λ (h : ℕ × Share). h.0) last.before ((hold.number, last.share) ∷ [])
@@ -161,7 +160,7 @@ module _ (l : LiveView) (c : Charter) (turns : List Turn) (asked : Asked) (behin
       count = same_count (holds_of l.seat) last.before (hold.number, last.share) turns spec last.all row.holds
 
       by_cases : (number : ℕ) → Contains (numbers_of last.before) number ⊎ (hold.number ≡ number) → HasLine l number
-      by_cases number (inl d) = turn_line number (subst (λ (ns : List ℕ). Contains ns number) (front_numbers last.before turns as bs e count) d)
+      by_cases number (inl d) = turn_line number (subst (λ (ns : List ℕ). Contains ns number) (front_numbers last.before turns ms bs e count) d)
       by_cases number (inr same) = subst (HasLine l) same line
 
 -- streams, by their bytes
@@ -182,9 +181,9 @@ follows_stopped : (l : LiveView) (g : Grant) (hold : KeptView) (end_told : Optio
 follows_stopped l g hold end_told s = follows_by l g hold.number (stream_law_holds.stopped (stream_of g hold) l.wire l.seat end_told s)
 
 text_at : (chunked : Bool) (head : List ℕ) (s : SeatView) (number : ℕ) (share : Share) → share_of_hold s number ≡ Some share → share.told ≡ None → stream_text chunked head share.taken None ≡ stream_text chunked head (taken_at s number) (told_at s number)
-text_at chunked head s number share there none =
+text_at chunked head s number share there untold =
     ap (λ (ps : List Piece). stream_text chunked head ps None) (sym (ap (λ (o : Option Share). option_map_or (λ (x : Share). x.taken) o []) there))
-    ∙ ap (λ (o : Option EndCause). stream_text chunked head (taken_at s number) o) (sym (ap (λ (o : Option Share). option_map_or (λ (x : Share). x.told) o None) there ∙ none))
+    ∙ ap (λ (o : Option EndCause). stream_text chunked head (taken_at s number) o) (sym (ap (λ (o : Option Share). option_map_or (λ (x : Share). x.told) o None) there ∙ untold))
 
 follows_leaves : (p : Parting) (l : LiveView) (g : Grant) (hold : KeptView) → LeavesAs p l (stream_of g hold) → FollowsHold l g hold.number
 follows_leaves Gone l g hold s = follows_stream l g hold s.0
@@ -305,44 +304,39 @@ headline_free l stage t = past_headline l (asked_in stage) (last_of stage t.give
 
 -- at an end
 
-module _ (l : LiveView) (same : l.reports.items ≡ reports_of (holds_of l.seat)) where
-  stream_headline : (g : Grant) (rows : Granting l g) (e : SessionEnd) (y : Why) → HeldEnds l rows.heard.turns g e y → HasHeadline l
-  stream_headline g rows e y says = by_says (λ hold own at follows. by_reported l rows.heard.turns g.asked.value rows.heard.behind rows.heard.held rows.heard.told (AsksFor g) hold own at same (streamed (g, rows, follows))) says
-    where
-      by_says : ((hold : KeptView) → IsLastHold l hold → HasAttached l rows.heard.turns (AsksFor g) → FollowsHold l g hold.number → HasHeadline l) → HeldEnds l rows.heard.turns g e y → HasHeadline l
-      by_says last (full_sent h bytes rest) = by_declined l rows.heard.turns g.asked.value rows.heard.behind rows.heard.held rows.heard.told (AsksFor g) h
-      by_says last (full_gone h bytes failed) = by_declined l rows.heard.turns g.asked.value rows.heard.behind rows.heard.held rows.heard.told (AsksFor g) h
-      by_says last (full_wanting h bytes) = by_declined l rows.heard.turns g.asked.value rows.heard.behind rows.heard.held rows.heard.told (AsksFor g) h
-      by_says last (unattached_wanting h) = by_unattached l rows.heard.turns g.asked.value rows.heard.behind rows.heard.held rows.heard.told h
-      by_says last (unattached_worn h worn) = by_unattached l rows.heard.turns g.asked.value rows.heard.behind rows.heard.held rows.heard.told h
-      by_says last (told_sent hold cause h rest) = last hold h.own h.attached (follows_finished l g hold cause h.finished)
-      by_says last (told_gone hold cause h failed) = last hold h.own h.attached (follows_finished l g hold cause h.finished)
-      by_says last (told_wanting hold cause h) = last hold h.own h.attached (follows_stopped l g hold (Some cause) h.stopped)
-      by_says last (kept_worn hold attached own s worn) = last hold own attached (follows_stream l g hold s)
-      by_says last (leaving_worn hold parting attached own s worn) = last hold own attached (follows_leaves parting l g hold s)
-      by_says last (let_go hold parting attached own detached s) = last hold own attached (follows_left parting l g hold s)
+module _ (l : LiveView) (turns : List Turn) (asked : Asked) (behind : Behind l.charter turns asked) (held : AreHeld l.seat turns) (told : IsPrefix (reports_before turns) l.reports.items) (same : l.reports.items ≡ reports_of (holds_of l.seat)) where
+  stream_says : (g : Grant) → Granting l g → (e : SessionEnd) (y : Why) → HeldEnds l turns g e y → HasHeadline l
+  stream_says g rows e y (full_sent h bytes rest) = by_declined l turns asked behind held told (AsksFor g) h
+  stream_says g rows e y (full_gone h bytes failed) = by_declined l turns asked behind held told (AsksFor g) h
+  stream_says g rows e y (full_wanting h bytes) = by_declined l turns asked behind held told (AsksFor g) h
+  stream_says g rows e y (unattached_wanting h) = by_unattached l turns asked behind held told h
+  stream_says g rows e y (unattached_worn h worn) = by_unattached l turns asked behind held told h
+  stream_says g rows e y (told_sent hold cause h rest) = by_reported l turns asked behind held told (AsksFor g) hold h.own h.attached same (streamed (g, rows, follows_finished l g hold cause h.finished))
+  stream_says g rows e y (told_gone hold cause h failed) = by_reported l turns asked behind held told (AsksFor g) hold h.own h.attached same (streamed (g, rows, follows_finished l g hold cause h.finished))
+  stream_says g rows e y (told_wanting hold cause h) = by_reported l turns asked behind held told (AsksFor g) hold h.own h.attached same (streamed (g, rows, follows_stopped l g hold (Some cause) h.stopped))
+  stream_says g rows e y (kept_worn hold attached own s worn) = by_reported l turns asked behind held told (AsksFor g) hold own attached same (streamed (g, rows, follows_stream l g hold s))
+  stream_says g rows e y (leaving_worn hold parting attached own s worn) = by_reported l turns asked behind held told (AsksFor g) hold own attached same (streamed (g, rows, follows_leaves parting l g hold s))
+  stream_says g rows e y (let_go hold parting attached own detached s) = by_reported l turns asked behind held told (AsksFor g) hold own attached same (streamed (g, rows, follows_left parting l g hold s))
 
-  poll_headline : (p : Poll) (rows : Polling l p) (e : SessionEnd) (y : Why) → PollEnds l rows.heard.turns p e y → HasHeadline l
-  poll_headline p rows e y says = by_says (λ Asks hold own at line. by_reported l rows.heard.turns p.asked.value rows.heard.behind rows.heard.held rows.heard.told Asks hold own at same line) says
-    where
-      by_says : ((Asks : HoldSpec → Type 0) (hold : KeptView) → IsLastHold l hold → HasAttached l rows.heard.turns Asks → HasLine l hold.number → HasHeadline l) → PollEnds l rows.heard.turns p e y → HasHeadline l
-      by_says last (denied_sent h bytes rest) = by_declined l rows.heard.turns p.asked.value rows.heard.behind rows.heard.held rows.heard.told (MayPoll p) h
-      by_says last (denied_gone h bytes failed) = by_declined l rows.heard.turns p.asked.value rows.heard.behind rows.heard.held rows.heard.told (MayPoll p) h
-      by_says last (denied_wanting h bytes) = by_declined l rows.heard.turns p.asked.value rows.heard.behind rows.heard.held rows.heard.told (MayPoll p) h
-      by_says last (unbegun_wanting h) = by_unattached l rows.heard.turns p.asked.value rows.heard.behind rows.heard.held rows.heard.told h
-      by_says last (unbegun_worn h worn) = by_unattached l rows.heard.turns p.asked.value rows.heard.behind rows.heard.held rows.heard.told h
-      by_says last (answered_sent hold cause code h rest) = last (PollsFor p h.moment) hold h.own h.attached (line_answered l p hold cause code h.moment h.wait rows h.poll_is h.is)
-      by_says last (answered_gone hold cause code h failed) = last (PollsFor p h.moment) hold h.own h.attached (line_answered l p hold cause code h.moment h.wait rows h.poll_is h.is)
-      by_says last (unput hold cause h) = last (PollsFor p h.moment) hold h.own h.attached (line_unput l p hold cause h.moment h.wait rows h.poll_is h.is)
-      by_says last (overflowed hold h rest) = last (PollsFor p h.moment) hold h.own h.attached (line_overflowed l p hold h.moment h.wait rows h.poll_is h.is)
-      by_says last (unrepeated r h) = last (PollsFor p h.moment) r.hold h.own h.attached (line_retried l p r h.moment h.wait rows h.poll_is h.is)
-      by_says last (waiting_worn now hold attached own s worn) = last (PollsFor p now) hold own attached (line_still l p hold rows s)
-      by_says last (departed now hold parting share attached own detached is asked_for bytes by) = last (PollsFor p now) hold own attached (line_nothing l p rows hold.number share is.there asked_for bytes)
+  poll_says : (p : Poll) → Polling l p → (e : SessionEnd) (y : Why) → PollEnds l turns p e y → HasHeadline l
+  poll_says p rows e y (denied_sent h bytes rest) = by_declined l turns asked behind held told (MayPoll p) h
+  poll_says p rows e y (denied_gone h bytes failed) = by_declined l turns asked behind held told (MayPoll p) h
+  poll_says p rows e y (denied_wanting h bytes) = by_declined l turns asked behind held told (MayPoll p) h
+  poll_says p rows e y (unbegun_wanting h) = by_unattached l turns asked behind held told h
+  poll_says p rows e y (unbegun_worn h worn) = by_unattached l turns asked behind held told h
+  poll_says p rows e y (answered_sent hold cause code h rest) = by_reported l turns asked behind held told (PollsFor p h.moment) hold h.own h.attached same (line_answered l p hold cause code h.moment h.wait rows h.poll_is h.is)
+  poll_says p rows e y (answered_gone hold cause code h failed) = by_reported l turns asked behind held told (PollsFor p h.moment) hold h.own h.attached same (line_answered l p hold cause code h.moment h.wait rows h.poll_is h.is)
+  poll_says p rows e y (unput hold cause h) = by_reported l turns asked behind held told (PollsFor p h.moment) hold h.own h.attached same (line_unput l p hold cause h.moment h.wait rows h.poll_is h.is)
+  poll_says p rows e y (overflowed hold h rest) = by_reported l turns asked behind held told (PollsFor p h.moment) hold h.own h.attached same (line_overflowed l p hold h.moment h.wait rows h.poll_is h.is)
+  poll_says p rows e y (unrepeated r h) = by_reported l turns asked behind held told (PollsFor p h.moment) r.hold h.own h.attached same (line_retried l p r h.moment h.wait rows h.poll_is h.is)
+  poll_says p rows e y (waiting_worn now hold attached own s worn) = by_reported l turns asked behind held told (PollsFor p now) hold own attached same (line_still l p hold rows s)
+  poll_says p rows e y (departed now hold parting share attached own detached is asked_for bytes by) =
+      by_reported l turns asked behind held told (PollsFor p now) hold own attached same (line_nothing l p rows hold.number share is.there asked_for bytes)
 
 pub headline_end : (l : LiveView) (ended : Ended) → PhaseFinishes l ended → HasHeadline l
 headline_end l ended (inl f) = past_headline l (asked_in f.stage) (hung_up (last_of f.stage f.told.given)) f.told.talks
 headline_end l ended (inr f) = by_kind f.by
   where
     by_kind : StreamFinishes l ended ⊎ PollFinishes l ended → HasHeadline l
-    by_kind (inl s) = stream_headline l f.reported s.grant s.rows ended.end ended.why s.says
-    by_kind (inr p) = poll_headline l f.reported p.poll p.rows ended.end ended.why p.says
+    by_kind (inl s) = stream_says l s.rows.heard.turns s.grant.asked.value s.rows.heard.behind s.rows.heard.held s.rows.heard.told f.reported s.grant s.rows ended.end ended.why s.says
+    by_kind (inr p) = poll_says l p.rows.heard.turns p.poll.asked.value p.rows.heard.behind p.rows.heard.held p.rows.heard.told f.reported p.poll p.rows ended.end ended.why p.says

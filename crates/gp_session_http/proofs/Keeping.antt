@@ -544,7 +544,7 @@ module _ (v : LiveView) (r : Roomy HoldReport) where
             reported_rows s.grant h.rows more,
             record {
               attached = attached_at v reported_now h.rows.heard.turns (AsksFor s.grant) refl h.attached;
-              own = over_last v v.reports.items s.stream.hold (Some cause) h.holds;
+              own = last_at v reported_now s.stream.hold refl (over_last v v.reports.items s.stream.hold (Some cause) h.holds);
               entries = h.entries;
               holds = row;
               finished = subst (λ (z : StreamView). Finished z v.wire v.seat cause) h.framed h.finished;
@@ -573,7 +573,7 @@ module _ (v : LiveView) (r : Roomy HoldReport) where
       by_kind o d (told cause k) tells on ended is = reported_end 2 s.grant end.NoMemory k.rows (over_more s.stream.hold (Some cause) k.holds tells) (inl k.entries) (over_reported (on k.holds)) (λ _. over_released (on k.holds))
           (told_wanting s.stream.hold cause (record {
             attached = attached_at v reported_now k.rows.heard.turns (AsksFor s.grant) refl k.attached;
-            own = over_last v v.reports.items s.stream.hold (Some cause) k.holds;
+            own = last_at v reported_now s.stream.hold refl (over_last v v.reports.items s.stream.hold (Some cause) k.holds);
             stopped = subst (λ (z : StreamView). Stopped z v.wire v.seat (Some cause)) h.framed k.stopped;
           })) ended is
 

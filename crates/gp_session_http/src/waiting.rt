@@ -149,6 +149,7 @@ fn repeat<'h, L: Link, D: Dial, C: Clock>(
     ensures leads { HeldLeads live.old live.new 4 result }
 {
     forward_law();
+    drop(poll);
     let Repeat { hold, last, count } = repeated;
     hold.report(Some(EndCause::Retry), &mut live.reports);
     let moment = live.watch.moment();

@@ -53,7 +53,7 @@ returns-in-Busy g c =
     let h : BeginningTold v s = subst (λ (x : LiveView). BeginningTold x s) (sym c.live.view_is) c.requires.told in
     let m = c.moment-now in
     let e = c.in-Busy.ensures in
-    record { leads = held_live v c.args.live.now _ 5 _ c.live.view_is (begins_busy v s h m.new.self m.result m.ensures.uses m.ensures.row c.attach.new.seat c.attach.new.reports e.moved e.row e.items e.entries (e.holds h.is.holds) (e.attaches (specs_before h.rows.heard.turns) h.is.attaches) c.in-Busy.«opening» e.begins e.opens); timed = tt }
+    record { leads = held_live v c.args.live.now _ 5 _ c.live.view_is (begins_busy v s h m.new.self m.result m.ensures.uses m.ensures.row c.attach.new.seat c.attach.new.reports e.moved e.row e.items e.entries (e.holds h.is.holds) (e.attaches (specs_before h.rows.heard.turns) h.is.attaches) c.in-Busy.opening e.begins e.opens); timed = tt }
 
 pub returns-in-Worn : goal.returns-in-Worn
 returns-in-Worn g c =
