@@ -12,7 +12,7 @@ use Rattle.gp_session.specs.Seats.{SeatView}
 use Rattle.gp_session_hold.specs.Rows.{DetachedRow, EntriesRow, IsOwn, IsOwnEvent, holds_of, numbers_of}
 use Rattle.gp_session_http.specs.Holding.{EntriesAtEnd}
 use Rattle.gp_session_http.specs.Views.{LiveView}
-use Rattle.gp_session_http.proofs.Ending.{leaves_reports, leaves_released, leaves_seat}
+use Rattle.gp_session_http.proofs.Ending.{leaves_entries, leaves_reports, leaves_released, leaves_seat}
 use Rattle.gp_session_http.proofs.Headlining.{headline_end}
 use Rattle.atomic_table.specs.Seated.{TableId}
 use Rattle.gp_plain.specs.declared.event.Entry.{Entry}
@@ -76,8 +76,7 @@ quiet_by Worn s row = quiet_rows s row
 quiet_by NoMemory s row = quiet_end s row
 
 none_published : (l : LiveView) (ended : _) → PhaseFinishes l ended → count_by publishes (mine l.seat.pass) ≡ 0
-none_published l ended (inl f) = ap (count_by publishes) f.told.stays.entries
-none_published l ended (inr f) = quiet_by ended.end l.seat f.entries
+none_published l ended f = quiet_by ended.end l.seat (leaves_entries l ended f)
 
 module _ {L D C : Type 0} (links : L → LinkTells) (dials : D → DialTells) (clocks : C → ClockTells) (server : ServerView) where
   given_from : (turn : TableId) (claim : ℕ) (start : DevicesView) (pass : HubView) (over : Finished L D C) (l : LeavesClient links dials clocks start pass (charter_of server claim) over)
