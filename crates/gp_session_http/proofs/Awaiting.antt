@@ -1,5 +1,5 @@
 -- The moves of a session whose origin's answer asks for a long poll.
-use Rattle.std.proofs.Common.{◌≡◌, ◌≢◌, ℕ, zero, suc, ◌+◌, ◌<◌, ◌≤◌, ◌&&◌, nat_lt, Bool, true, false, List, [], ◌∷◌, ◌++◌, length, map, Option, Some, None, is_some, option_map, refl, sym, ap, ◌∙◌, subst, arith, append-nil, length-append, ◌⊎◌, inl, inr}
+use Rattle.std.proofs.Common.{◌≡◌, ◌≢◌, ℕ, zero, suc, ◌+◌, ◌<◌, ◌&&◌, nat_lt, true, List, [], ◌∷◌, ◌++◌, length, Option, Some, None, is_some, option_map, refl, sym, ap, ◌∙◌, subst, arith, append-nil, length-append, inl, inr}
 use Rattle.std.specs.List.{All}
 use Rattle.std.proofs.lemmas.Bool.Decides.{nat_tests}
 use Rattle.std.proofs.lemmas.List.{map-append}
@@ -8,12 +8,10 @@ use Rattle.gp_plain.specs.Others.{Share}
 use Rattle.gp_plain.specs.Reports.{report}
 use Rattle.gp_plain.specs.Roomy.{Roomy}
 use Rattle.gp_plain.specs.declared.event.HoldSpec.{HoldSpec}
-use Rattle.gp_plain.specs.declared.http.Address.{Address}
 use Rattle.gp_plain.specs.declared.reply.EndCause.{EndCause}
 use Rattle.gp_plain.specs.declared.reply.EndCause.TheVariants as cause_is
 use Rattle.gp_plain.specs.declared.reply.HoldReport.{HoldReport}
 use Rattle.gp_outside.specs.Counts.{Rose, grown}
-use Rattle.gp_outside.specs.Dials.{IsIdle}
 use Rattle.gp_outside.specs.Links.{LinkTells}
 use Rattle.gp_outbox.specs.declared.outbox.Flushed.{Flushed}
 use Rattle.gp_outbox.specs.declared.outbox.Flushed.TheVariants as flushed
@@ -25,26 +23,24 @@ use Rattle.gp_hub.specs.declared.outcome.Why.TheVariants as why
 use Rattle.gp_instruct.specs.declared.instruct.Instruct.{Instruct}
 use Rattle.gp_instruct.specs.Spec.{spec}
 use Rattle.gp_forward.specs.Conditions.{ForwardLaw}
-use Rattle.gp_intake.specs.declared.body.Whole.{Whole}
 use Rattle.gp_exchange.specs.Views.{ExchangeView}
 use Rattle.gp_exchange.specs.Answers.{rank, head_of}
 use Rattle.gp_exchange.specs.declared.place.Place.{Place}
 use Rattle.gp_exchange.specs.declared.place.Place.TheVariants as place
-use Rattle.gp_session.specs.Lines.{Aim, aim_of, LineRow, Last, idle, speaking, hung, begun_with, more_if}
+use Rattle.gp_session.specs.Lines.{Aim, aim_of, LineRow, idle, speaking, begun_with, more_if}
 use Rattle.gp_session.specs.Seats.{SeatView, MovedSeat, SeatRow, IsServed, IsWorn, Busied}
 use Rattle.gp_session.specs.Watches.{WatchView, WatchRow, Uses}
-use Rattle.gp_session.specs.Wires.{WireView, MovedWire, BytesRow, Sent, exactly, Flushes}
+use Rattle.gp_session.specs.Wires.{WireView, MovedWire, BytesRow, exactly, Flushes}
 use Rattle.gp_session.specs.declared.holding.LetGo.TheVariants as let_go_is
 use Rattle.gp_session.proofs.Lining.{begins_talk, ended}
 use Rattle.gp_session.proofs.Moving.{rose_since, sent_same, sent_put, sent_flushed, moved_put, moved_flushed, moved_wire_same, moved_seat_same}
 use Rattle.gp_session_hold.specs.Leaves.{LeavesHold}
 use Rattle.gp_session_hold.specs.Opens.{OpensTo}
-use Rattle.gp_session_hold.specs.Rows.{KeptView, IsKept, IsOver, IsCounted, IsReleased, none, kept, over, holds_of, reports_of, specs_of, HoldsRow, EntriesRow, DetachedRow, AttachRow}
+use Rattle.gp_session_hold.specs.Rows.{KeptView, IsKept, IsCounted, IsReleased, none, kept, over, holds_of, reports_of, HoldsRow, EntriesRow, DetachedRow, AttachRow}
 use Rattle.gp_session_hold.specs.declared.attaching.Opened.TheVariants as opened
 use Rattle.gp_session_wait.specs.Openings.{spec_at, may_repeat, IsBegun}
 use Rattle.gp_session_wait.specs.Views.{OpeningView, WaitView}
-use Rattle.gp_session_wait.specs.Waits.{Waits, HasForm, PollsWait, IsSameWait, IsStillKept, IsAnswered, is_again, most_repeats}
-use Rattle.gp_session_wait.specs.declared.wait.Last.{Last as LastItem}
+use Rattle.gp_session_wait.specs.Waits.{PollsWait, IsSameWait, IsStillKept, IsAnswered, is_again, most_repeats}
 use Rattle.gp_session_wait.specs.declared.wait.Repeat.{Repeat}
 use Rattle.gp_session_wait.specs.declared.wait.Polled.{Polled}
 use Rattle.gp_session_wait.specs.declared.wait.Polled.TheVariants as polled
@@ -60,22 +56,21 @@ use Rattle.gp_session_http.specs.declared.leaving.Parting.{Parting}
 use Rattle.gp_session_http.specs.declared.leaving.Parting.TheVariants.{Gone, Wanting}
 use Rattle.gp_session_http.specs.declared.poll.Poll.{Poll}
 use Rattle.gp_session_http.specs.declared.stage.Ended.{Ended}
-use Rattle.gp_session_http.specs.declared.stage.Stage.TheVariants.{Asking}
 use Rattle.gp_session_http.specs.Asking.{IsAskable, asked_after}
-use Rattle.gp_session_http.specs.Heard.{IsUnattached, IsDeclined, HasAttached, IsLastHold, full_text, end_of}
-use Rattle.gp_session_http.specs.Holding.{EntriesAtEnd, PollFinishes, HeldFinishes, AsksAgain, StreamWaited, HeldLeads}
-use Rattle.gp_session_http.specs.LongPolls.{Polling, PollsFor, MayPoll, BeginningTold, DenyingTold, KeepsPoll, IsPollOf, WaitsPoll, PollIs, AnswersPoll, StillPolls, PartsBy, DepartingTold, PollEnds, denied_sent, denied_gone, denied_wanting, unbegun_wanting, unbegun_worn, answered_sent, answered_gone, unput, overflowed, unrepeated, waiting_worn, departed, IsDeniedAt, PollOver, HasAnswered, StaysPolling, HasStopped, worn, cut, wanted, IsMissed, HasRepeated, HasGone, HasDeparted, gone, stays}
+use Rattle.gp_session_http.specs.Heard.{IsUnattached, IsDeclined, HasAttached, full_text, end_of}
+use Rattle.gp_session_http.specs.Holding.{EntriesAtEnd, StreamWaited, HeldLeads}
+use Rattle.gp_session_http.specs.LongPolls.{Polling, PollsFor, MayPoll, BeginningTold, DenyingTold, KeepsPoll, IsPollOf, WaitsPoll, PollIs, AnswersPoll, StillPolls, PartsBy, DepartingTold, PollEnds, denied_sent, denied_gone, denied_wanting, unbegun_wanting, unbegun_worn, answered_sent, answered_gone, unput, overflowed, unrepeated, waiting_worn, departed, IsDeniedAt, PollOver, HasAnswered, HasStopped, worn, cut, wanted, IsMissed, HasRepeated, HasDeparted, gone, stays}
 use Rattle.gp_session_http.specs.Moves.{IsBegunWith, said}
 use Rattle.gp_session_http.specs.Posings.{kept_for}
-use Rattle.gp_session_http.specs.Routing.{Charter, IsServed as IsRequestServed}
-use Rattle.gp_session_http.specs.Trace.{BeginsWith, HeardAs, WasAsked, Told}
-use Rattle.gp_session_http.specs.Turns.{Turn, IsPollSpec, IsTurn, IsRepeatOf, Behind, again, AreHeld, aims_of, specs_before, reports_before}
+use Rattle.gp_session_http.specs.Routing.{IsServed as IsRequestServed}
+use Rattle.gp_session_http.specs.Trace.{BeginsWith, HeardAs, WasAsked}
+use Rattle.gp_session_http.specs.Turns.{Turn, Behind, again, AreHeld, aims_of, specs_before, reports_before}
 use Rattle.gp_session_http.specs.Views.{LiveView, Goes}
 use Rattle.gp_session_http.proofs.Rows.{no_parts}
 use Rattle.gp_session_http.proofs.Hearing.{none_waits}
 use Rattle.gp_session_http.proofs.Talking.{askable, over_rank}
 use Rattle.gp_session_http.proofs.Granting.{with_held, goes_on, heard_on, heard_none, calls_on, unattached_same, none_more, same_more, none_reported, none_kept}
-use Rattle.gp_session_http.proofs.Keeping.{attached_at, over_last, kept_last, last_at, with_client, went_client, declined_still, is_gone, reported_now, reported_went, over_more, kept_more, kept_reported, over_reported, over_released, parted}
+use Rattle.gp_session_http.proofs.Keeping.{attached_at, over_last, kept_last, last_at, went_client, declined_still, is_gone, reported_now, reported_went, over_more, kept_more, kept_reported, over_reported, over_released, parted}
 use Rattle.gp_session_http.proofs.Headlining.{turns_count, front_reports, before_count, same_count}
 
 abbrev polling_on : (v : LiveView) (x : WireView) (u : WatchView) (t : SeatView) (r : Roomy HoldReport) (p : Poll) → Polling v p → MovedWire v.wire x → (heard : List ℕ) → x.link.received ≡ grown v.wire.link.received heard
@@ -631,6 +626,7 @@ module _ (v : LiveView) (p : Poll) (kept_again : Option Asked) (r : Repeat) (h :
             omega arith,
           );
         }
+
     pub repeats_not : (ended : Ended) → ended ≡ record { end = end.NoMemory; why = why.Nothing } → HeldLeads v again_now 4 (End ended)
     repeats_not ended is =
         poll_end v again_now 4 p end.NoMemory why.Nothing again_went

@@ -1,5 +1,5 @@
 -- What gathering the body of an answer does to the rows of a session.
-use Rattle.std.proofs.Common.{◌≡◌, ◌≢◌, ℕ, zero, suc, ◌+◌, ◌-◌, ◌<◌, ◌≤◌, Bool, true, false, List, [], ◌∷◌, ◌++◌, length, nat_lt, Option, Some, None, option_map, refl, sym, ap, ◌∙◌, subst, arith, append-nil, length-append, ◌⊎◌, inl, inr}
+use Rattle.std.proofs.Common.{◌≡◌, ℕ, zero, suc, ◌+◌, ◌-◌, ◌<◌, ◌≤◌, Bool, true, false, List, [], ◌∷◌, ◌++◌, length, nat_lt, Option, Some, None, option_map, refl, sym, ap, ◌∙◌, subst, arith, append-nil, length-append, ◌⊎◌, inl, inr}
 use Rattle.std.specs.Prelude.{if◌then◌else◌}
 use Rattle.std.proofs.lemmas.Bool.Decides.{nat_tests}
 use Rattle.gp_answer.specs.Framings.{streamed}
@@ -7,7 +7,6 @@ use Rattle.gp_plain.specs.Fit.{fits}
 use Rattle.gp_plain.specs.declared.event.Event.TheVariants.{Attach}
 use Rattle.gp_plain.specs.declared.event.HoldSpec.{HoldSpec}
 use Rattle.gp_plain.specs.declared.http.Response.{Response}
-use Rattle.gp_outside.specs.Dials.{DialTells}
 use Rattle.gp_hub.specs.declared.outcome.SessionEnd.TheVariants as end
 use Rattle.gp_hub.specs.declared.outcome.Why.{Why}
 use Rattle.gp_hub.specs.declared.outcome.Why.TheVariants as why
@@ -21,7 +20,7 @@ use Rattle.gp_instruct_json.specs.Bodies.{asked_of as asked_in}
 use Rattle.gp_instruct_json.specs.Kinds.{has_type}
 use Rattle.gp_instruct_json.specs.declared.answer.Answer.{Answer}
 use Rattle.gp_exchange.specs.Views.{ExchangeView}
-use Rattle.gp_exchange.specs.Answers.{rank, head_of, IsOverBy, Gives, Waits}
+use Rattle.gp_exchange.specs.Answers.{rank, head_of, IsOverBy, Gives}
 use Rattle.gp_exchange.specs.declared.answer.ExchangeFault.{ExchangeFault}
 use Rattle.gp_exchange.specs.declared.answer.Last.{Last as ExchangeLast}
 use Rattle.gp_exchange.specs.declared.answer.Last.TheVariants as last
@@ -52,11 +51,11 @@ use Rattle.gp_session_http.specs.Posings.{IsCountedIn, IsOpeningOf, IsPosed, kep
 use Rattle.gp_session_http.specs.Routing.{Charter, IsServed}
 use Rattle.gp_session_http.specs.Turns.{Turn, Behind, first as asked_first, again as asked_again, reports_before}
 use Rattle.gp_session_http.specs.Givings.{code_given, given_text}
-use Rattle.gp_session_http.specs.Moves.{waits, Leads, HasAsked, said, HasHeadOf, IsAnsweredAt, IsFailedAt, HasFailedAt, HasCome, HasComeAll, IsAnsweredWith, GathersOn, GathersTo}
+use Rattle.gp_session_http.specs.Moves.{waits, Leads, HasAsked, said, IsAnsweredAt, IsFailedAt, HasFailedAt, HasCome, HasComeAll, IsAnsweredWith, GathersOn, GathersTo}
 use Rattle.gp_session_http.specs.Passing.{ArePartsOf, code_by, in_chunks}
 use Rattle.gp_session_http.specs.Trace.{BeginsWith, HeardAs, IsGathering, Told}
 use Rattle.gp_session_http.specs.Views.{LiveView, Moved}
-use Rattle.gp_session_http.specs.Wishes.{most_gathered, AsksStream, IsWish, status_of}
+use Rattle.gp_session_http.specs.Wishes.{most_gathered, IsWish, status_of}
 use Rattle.gp_session_http.proofs.Rows.{with_wire, with_line, moved_by_put, moved_unput, moved_line, moved_same, moved_again, no_parts, leads_from}
 use Rattle.gp_session_http.proofs.Hearing.{none_waits}
 use Rattle.gp_session_http.proofs.Talking.{polled, put_on, put_none, over_hung, over_rank, faulted}

@@ -1,5 +1,5 @@
 -- What each kind of move does to the rows of a session whose origin's answer asks for a stream.
-use Rattle.std.proofs.Common.{◌≡◌, ◌≢◌, ℕ, ◌+◌, ◌<◌, ◌≤◌, true, List, [], ◌∷◌, ◌++◌, length, Option, Some, None, option_map, refl, sym, ap, ◌∙◌, subst, arith, append-nil, append_assoc, ◌⊎◌, inl, inr}
+use Rattle.std.proofs.Common.{◌≡◌, ℕ, ◌+◌, ◌<◌, ◌≤◌, true, List, [], ◌∷◌, ◌++◌, length, Option, Some, None, option_map, refl, sym, ap, ◌∙◌, subst, arith, append-nil, append_assoc, ◌⊎◌, inl, inr}
 use Rattle.std.specs.List.{All}
 use Rattle.std.proofs.lemmas.List.Elements.{All-nil, All-push, All-head, All-tail}
 use mathlib.Core.List.{IsPrefix}
@@ -20,7 +20,7 @@ use Rattle.gp_exchange.specs.Views.{ExchangeView}
 use Rattle.gp_session.specs.Seats.{SeatView, MovedSeat, SeatRow}
 use Rattle.gp_session.specs.Watches.{WatchView, WatchRow, Uses, Asks as AsksClock}
 use Rattle.gp_session.specs.Wires.{WireView, MovedWire}
-use Rattle.gp_session.proofs.Moving.{rose_from, later_since, moved_wire_same, moved_wire_again, moved_seat_same, moved_seat_again, busied_from, write_waited_from}
+use Rattle.gp_session.proofs.Moving.{later_since, moved_wire_same, moved_wire_again, moved_seat_same, moved_seat_again, busied_from, write_waited_from}
 use Rattle.gp_session_hold.specs.Rows.{EntriesRow, AttachRow, HoldsRow, none, holds_of, reports_of, IsReleased}
 use Rattle.gp_session_hold.specs.Unlinked.{without_link}
 use Rattle.gp_session_wait.specs.Waits.{most_repeats}
@@ -157,8 +157,7 @@ held_moved s t c turns asked moved behind held = all_moved turns (all_released c
     all_moved : (turns : List Turn) → All (λ (turn : Turn). turn.share.released ≡ true) turns → AreHeld s turns → AreHeld t turns
     all_moved [] all h = tt
     all_moved (turn ∷ turns) all h =
-        let released : turn.share.released ≡ true = All-head (λ (t : Turn). t.share.released ≡ true) turn turns all in
-        (
+        let released : turn.share.released ≡ true = All-head (λ (t : Turn). t.share.released ≡ true) turn turns all in (
           subst (λ (es : List Entry). share_at (held_in es) turn.number ≡ Some turn.share) moved.seen.1 (released_share_law_holds s.pass.seen moved.seen.0 turn.number turn.share h.0 released),
           all_moved turns (All-tail (λ (t : Turn). t.share.released ≡ true) turn turns all) h.1,
         )

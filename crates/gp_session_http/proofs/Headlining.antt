@@ -1,11 +1,10 @@
 -- What was sent of the holds of a session.
-use Rattle.std.proofs.Common.{◌≡◌, ℕ, suc, ◌+◌, Bool, true, List, [], ◌∷◌, ◌++◌, length, map, slice_get, Option, Some, None, option_map, refl, sym, ap, ◌∙◌, subst, arith, append-nil, append_assoc, length-append, ◌⊎◌, inl, inr}
-use Rattle.std.specs.Option.{option_map_or, option_to_list}
+use Rattle.std.proofs.Common.{◌≡◌, ℕ, suc, ◌+◌, Bool, List, [], ◌∷◌, ◌++◌, length, map, Option, Some, None, refl, sym, ap, ◌∙◌, subst, arith, append-nil, length-append, ◌⊎◌, inl, inr}
+use Rattle.std.specs.Option.{option_map_or}
 use Rattle.std.specs.List.{All, Contains}
 use Rattle.std.proofs.lemmas.List.{map-append}
 use Rattle.std.proofs.lemmas.List.Elements.{All-nil, All-push, All-head, All-tail, Contains-push_cases, Contains-append_cases}
 use mathlib.Core.List.{IsPrefix}
-use Rattle.gp_plain.specs.History.{held}
 use Rattle.gp_plain.specs.Others.{Share}
 use Rattle.gp_plain.specs.Reports.{report}
 use Rattle.gp_plain.specs.declared.event.HoldSpec.{HoldSpec}
@@ -15,10 +14,10 @@ use Rattle.gp_plain.specs.declared.reply.HoldReport.{HoldReport}
 use Rattle.gp_plain.specs.declared.reply.Piece.{Piece}
 use Rattle.gp_hub.specs.declared.outcome.SessionEnd.{SessionEnd}
 use Rattle.gp_hub.specs.declared.outcome.Why.{Why}
-use Rattle.gp_session.specs.Lines.{LineView, Last}
+use Rattle.gp_session.specs.Lines.{Last}
 use Rattle.gp_session.specs.Seats.{SeatView}
-use Rattle.gp_session.specs.Wires.{WireView, BytesRow, Sent, at_most, exactly}
-use Rattle.gp_session_hold.specs.Rows.{KeptView, IsKept, IsOver, HoldsRow, none, kept, over, AttachRow, holds_of, share_of_hold, numbers_of, specs_of, reports_of, taken_at, told_at, stream_text}
+use Rattle.gp_session.specs.Wires.{BytesRow, Sent, at_most, exactly}
+use Rattle.gp_session_hold.specs.Rows.{KeptView, HoldsRow, none, kept, AttachRow, holds_of, share_of_hold, numbers_of, specs_of, reports_of, taken_at, told_at, stream_text}
 use Rattle.gp_session_hold.specs.Streams.{Streams, Finished, Stopped}
 use Rattle.gp_session_hold.proofs.Following.{headline_law_holds, stream_law_holds}
 use Rattle.gp_session_wait.specs.Laws.{poll_text}
@@ -41,13 +40,13 @@ use Rattle.gp_session_http.specs.declared.stage.Ended.{Ended}
 use Rattle.gp_session_http.specs.Routing.{Charter}
 use Rattle.gp_session_http.specs.Grants.{stream_head, AsksFor}
 use Rattle.gp_session_http.specs.Posings.{own_of}
-use Rattle.gp_session_http.specs.Turns.{Turn, Behind, first as asked_first, again as asked_again, AreHeld, specs_before, reports_before, Past, PastOf, Fresh}
+use Rattle.gp_session_http.specs.Turns.{Turn, Behind, first as asked_first, again as asked_again, AreHeld, specs_before, reports_before, PastOf}
 use Rattle.gp_session_http.specs.Trace.{asked_in, last_of, Told}
 use Rattle.gp_session_http.specs.Moves.{hung_up}
 use Rattle.gp_session_http.specs.Heard.{IsUnattached, IsDeclined, HasAttached, IsLastHold}
-use Rattle.gp_session_http.specs.LongPolls.{Polling, PollsFor, MayPoll, IsPollOf, PollIs, StillPolls, PollEnds, denied_sent, denied_gone, denied_wanting, unbegun_wanting, unbegun_worn, answered_sent, answered_gone, unput, overflowed, unrepeated, waiting_worn, departed}
-use Rattle.gp_session_http.specs.Headlines.{FollowsHold, IsStreamed, IsPolled, WasRepeated, HasLine, streamed, polled, repeated, HasHeadline}
-use Rattle.gp_session_http.specs.Holding.{StreamFinishes, PollFinishes, Granting, stream_of, HeldTold, LeavesAs, LeftAs, IsClosed, IsUnput as IsStreamUnput, HeldEnds, full_sent, full_gone, full_wanting, unattached_wanting, unattached_worn, told_sent, told_gone, told_wanting, kept_worn, leaving_worn, let_go}
+use Rattle.gp_session_http.specs.LongPolls.{Polling, PollsFor, MayPoll, IsPollOf, StillPolls, PollEnds, denied_sent, denied_gone, denied_wanting, unbegun_wanting, unbegun_worn, answered_sent, answered_gone, unput, overflowed, unrepeated, waiting_worn, departed}
+use Rattle.gp_session_http.specs.Headlines.{FollowsHold, WasRepeated, HasLine, streamed, polled, repeated, HasHeadline}
+use Rattle.gp_session_http.specs.Holding.{StreamFinishes, PollFinishes, Granting, stream_of, HeldTold, LeavesAs, LeftAs, HeldEnds, full_sent, full_gone, full_wanting, unattached_wanting, unattached_worn, told_sent, told_gone, told_wanting, kept_worn, leaving_worn, let_go}
 use Rattle.gp_session_http.specs.Polls.{PhaseFinishes}
 use Rattle.gp_session_http.specs.Views.{LiveView}
 

@@ -1,9 +1,8 @@
 -- What reading a request does to the rows of a session.
-use Rattle.std.proofs.Common.{◌≡◌, ℕ, List, [], ◌∷◌, ◌++◌, Some, None, refl, sym, ap, ◌∙◌, subst, arith, inl, inr, ◌⊎◌}
+use Rattle.std.proofs.Common.{◌≡◌, ℕ, List, [], ◌∷◌, ◌++◌, refl, sym, ap, ◌∙◌, subst, arith, inl, inr, ◌⊎◌}
 use Rattle.gp_plain.specs.declared.http.Address.{Address}
 use Rattle.gp_plain.specs.declared.http.Request.{Request}
 use Rattle.gp_outside.specs.Counts.{Rose}
-use Rattle.gp_outside.specs.Dials.{IsIdle}
 use Rattle.gp_outside.specs.Links.{LinkTells}
 use Rattle.gp_hub.specs.declared.outcome.SessionEnd.TheVariants as end
 use Rattle.gp_hub.specs.declared.outcome.Why.TheVariants as why
@@ -16,11 +15,9 @@ use Rattle.gp_intake.specs.Heads.{IsBegun}
 use Rattle.gp_intake.specs.Requests.{HeadedView, IsHeaded, IsUnderway, IsWhole, IsHeadRefusedBy, IsBodyRefusedBy}
 use Rattle.gp_intake.specs.Polls.{Hears, IsGone, IsStillUnderway, UsedHead, UsedBody}
 use Rattle.gp_session.specs.Wires.{WireView, RequestRow, BytesRow, exactly, Sent}
-use Rattle.gp_session.specs.Lines.{LineRow, idle}
 use Rattle.gp_session.proofs.Moving.{rose_since, request_more, request_same, sent_same, sent_put, moved_heard, moved_put}
 use Rattle.gp_session_http.specs.declared.cause.Cause.{Cause}
 use Rattle.gp_session_http.specs.declared.cause.Cause.TheVariants as cause
-use Rattle.gp_session_http.specs.declared.stage.Stage.{Stage}
 use Rattle.gp_session_http.specs.declared.stage.Stage.TheVariants.{ReadingHead, ReadingBody, Refusing}
 use Rattle.gp_session_http.specs.declared.stage.Ended.{Ended}
 use Rattle.gp_session_http.specs.declared.stage.Next.TheVariants.{Go, Wait, End}
@@ -28,9 +25,9 @@ use Rattle.gp_session_http.specs.declared.reading_head.ReadingHead.{ReadingHead 
 use Rattle.gp_session_http.specs.declared.reading_body.ReadingBody.{ReadingBody as BodyStage}
 use Rattle.gp_session_http.specs.declared.refusing.Refusing.{Refusing as RefusingStage}
 use Rattle.gp_session_http.specs.Routing.{IsRoutedTo, IsRouted, IsUnrouted, IsServed, IsRefusedFor, refusal_of, refusal_text, why_of}
-use Rattle.gp_session_http.specs.Views.{LiveView, Moved, SaysMore}
+use Rattle.gp_session_http.specs.Views.{LiveView, Moved}
 use Rattle.gp_session_http.specs.Trace.{Asks, text_of, Stays, Told}
-use Rattle.gp_session_http.specs.Moves.{IsReading, why_at, waits, Used, Leads, IsUnanswered, MayRefuse}
+use Rattle.gp_session_http.specs.Moves.{waits, Used, Leads, IsUnanswered, MayRefuse}
 use Rattle.gp_session_http.proofs.Rows.{with_wire, moved_over, moved_by_put, moved_unput, stays_wire, no_parts, says_same, request_used}
 
 pub unanswered_as : (l : LiveView) (P Q : List ℕ → Type 0) → IsUnanswered l P → ((received : List ℕ) → P received → Q received) → IsUnanswered l Q

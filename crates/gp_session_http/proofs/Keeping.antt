@@ -1,5 +1,5 @@
 -- The moves of a session whose origin's answer asks for a stream.
-use Rattle.std.proofs.Common.{◌≡◌, ◌≢◌, ℕ, ◌+◌, ◌<◌, Bool, true, List, [], ◌∷◌, ◌++◌, Option, Some, None, option_map, refl, sym, ap, ◌∙◌, subst, arith, append-nil, ◌⊎◌, inl, inr}
+use Rattle.std.proofs.Common.{◌≡◌, ◌≢◌, ℕ, Bool, true, List, [], ◌∷◌, ◌++◌, Option, Some, None, refl, sym, ap, ◌∙◌, subst, arith, append-nil, ◌⊎◌, inl, inr}
 use Rattle.std.specs.List.{All}
 use mathlib.Core.List.{IsPrefix}
 use Rattle.std.proofs.lemmas.List.{map-append}
@@ -12,7 +12,6 @@ use Rattle.gp_plain.specs.declared.event.HoldSpec.{HoldSpec}
 use Rattle.gp_plain.specs.declared.reply.EndCause.{EndCause}
 use Rattle.gp_plain.specs.declared.reply.EndCause.TheVariants as cause_is
 use Rattle.gp_plain.specs.declared.reply.HoldReport.{HoldReport}
-use Rattle.gp_outside.specs.Counts.{Rose, grown}
 use Rattle.gp_outside.specs.Links.{LinkTells, LinkLater}
 use Rattle.gp_outbox.specs.declared.outbox.Flushed.{Flushed}
 use Rattle.gp_outbox.specs.declared.outbox.Flushed.TheVariants as flushed
@@ -24,15 +23,14 @@ use Rattle.gp_intake.specs.Polls.{IsGone}
 use Rattle.gp_session.specs.Causes.{HasFailed, HasEnded}
 use Rattle.gp_session.specs.Seats.{SeatView, MovedSeat, SeatRow, IsServed, IsWorn, Busied}
 use Rattle.gp_session.specs.Watches.{WatchView, WatchRow, Uses}
-use Rattle.gp_session.specs.Wires.{WireView, MovedWire, BytesRow, Sent, exactly, Flushes}
-use Rattle.gp_session.specs.declared.holding.LetGo.{LetGo}
+use Rattle.gp_session.specs.Wires.{WireView, MovedWire, BytesRow, exactly, Flushes}
 use Rattle.gp_session.specs.declared.holding.LetGo.TheVariants as let_go_is
 use Rattle.gp_session.proofs.Moving.{rose_since, sent_same, sent_put, sent_flushed, moved_put, moved_flushed, moved_wire_same, moved_seat_same}
-use Rattle.gp_session_hold.specs.Leaves.{LeavesEntries, LeavesHold, last_let_go, stream_end}
-use Rattle.gp_session_hold.specs.Opens.{OpensTo, AttachesTo, last_opened}
+use Rattle.gp_session_hold.specs.Leaves.{LeavesEntries, LeavesHold, stream_end}
+use Rattle.gp_session_hold.specs.Opens.{OpensTo}
 use Rattle.gp_session_hold.specs.Polls.{PollsStream, last_polled}
 use Rattle.gp_session_hold.specs.Puts.{PutsBehind}
-use Rattle.gp_session_hold.specs.Rows.{KeptView, IsKept, IsOver, IsReleased, LastHold, none, kept, over, holds_of, reports_of, HoldsRow, EntriesRow, DetachedRow, AttachRow, IsCounted, stream_text}
+use Rattle.gp_session_hold.specs.Rows.{KeptView, IsKept, IsReleased, none, kept, over, holds_of, reports_of, HoldsRow, EntriesRow, DetachedRow, AttachRow, IsCounted, stream_text}
 use Rattle.gp_session_hold.specs.Streams.{StreamView, Streams, Finished, Stopped}
 use Rattle.gp_session_hold.specs.Unlinked.{without_link}
 use Rattle.gp_session_hold.specs.declared.attaching.Opened.TheVariants as opened
@@ -53,9 +51,9 @@ use Rattle.gp_session_http.specs.declared.stage.Ended.{Ended}
 use Rattle.gp_session_http.specs.Grants.{AsksFor, stream_head}
 use Rattle.gp_session_http.specs.Turns.{Turn, specs_before}
 use Rattle.gp_session_http.specs.Heard.{IsUnattached, IsDeclined, HasAttached, IsLastHold, full_text, end_of}
-use Rattle.gp_session_http.specs.Holding.{Granting, stream_of, AttachingTold, DecliningTold, Keeps, StreamingTold, LeavesAs, LeavingTold, IsClosed, ClosingTold, EntriesAtEnd, LeftAs, HeldEnds, full_sent, full_gone, full_wanting, unattached_wanting, unattached_worn, told_sent, told_gone, told_wanting, kept_worn, leaving_worn, let_go, HeldFinishes, HeldLeads, IsAttachedAt, IsDeclinedAt, HasClosed, StopsWorn, StopsTold, StopsBy, worn, told, HasStoppedAt, HasDetached, StaysWorn, HasLeft, went, stays}
+use Rattle.gp_session_http.specs.Holding.{Granting, stream_of, AttachingTold, DecliningTold, Keeps, StreamingTold, LeavesAs, LeavingTold, IsClosed, ClosingTold, EntriesAtEnd, LeftAs, HeldEnds, full_sent, full_gone, full_wanting, unattached_wanting, unattached_worn, told_sent, told_gone, told_wanting, kept_worn, leaving_worn, let_go, HeldLeads, IsAttachedAt, IsDeclinedAt, HasClosed, StopsBy, worn, told, HasStoppedAt, HasLeft, went, stays}
 use Rattle.gp_session_http.specs.Views.{LiveView, Goes}
-use Rattle.gp_session_http.proofs.Granting.{with_held, goes_on, held_from, granting_on, granting_wire, granting_seat, heard_none, calls_on, unattached_same, none_more, same_more, none_reported, none_kept, unlinked_twice, unlinked_fits, unlinked_again}
+use Rattle.gp_session_http.proofs.Granting.{with_held, goes_on, granting_on, granting_wire, granting_seat, calls_on, unattached_same, none_more, same_more, none_reported, none_kept, unlinked_fits, unlinked_again}
 
 -- the hold that was attached last
 

@@ -1,7 +1,6 @@
 -- What each kind of move does to the rows of a session.
-use Rattle.std.proofs.Common.{◌≡◌, ◌≢◌, ℕ, ◌≤◌, List, [], ◌++◌, Some, None, refl, sym, ap, ◌∙◌, subst, arith, append-nil, append_assoc, ◌⊎◌, inl, inr}
+use Rattle.std.proofs.Common.{◌≡◌, ℕ, ◌≤◌, List, [], ◌++◌, refl, sym, ap, ◌∙◌, subst, arith, append-nil, append_assoc, inl, inr}
 use Rattle.std.proofs.lemmas.List.Elements.{All-nil}
-use Rattle.gp_outside.specs.Counts.{Rose}
 use Rattle.gp_outside.specs.Dials.{DialTells, DialLater, IsIdle}
 use Rattle.gp_outside.specs.Links.{LinkTells}
 use Rattle.gp_outbox.specs.declared.outbox.Flushed.{Flushed}
@@ -10,7 +9,7 @@ use Rattle.gp_hub.specs.declared.outcome.SessionEnd.{SessionEnd}
 use Rattle.gp_hub.specs.declared.outcome.SessionEnd.TheVariants as end
 use Rattle.gp_exchange.proofs.Leading.{later_same as dial_same, later_later as dial_later}
 use Rattle.gp_exchange.proofs.Causes.{waits_from}
-use Rattle.gp_session.specs.Wires.{WireView, MovedWire, RequestRow, Sent, BytesRow, exactly, Flushes}
+use Rattle.gp_session.specs.Wires.{WireView, MovedWire, RequestRow, Sent, BytesRow, Flushes}
 use Rattle.gp_session.specs.Lines.{Aim, LineView, MovedLine, LineRow, Last}
 use Rattle.gp_session.specs.Watches.{WatchView}
 use Rattle.gp_session.proofs.Moving.{rose_since, later_since, request_same, sent_flushed, sent_put, sent_same, moved_flushed, moved_put, moved_seat_same, moved_seat_again, moved_wire_same, moved_wire_again, read_waited_from, write_waited_from}
@@ -26,8 +25,8 @@ use Rattle.gp_plain.specs.declared.reply.HoldReport.{HoldReport}
 use Rattle.gp_session.specs.Seats.{SeatView}
 use Rattle.gp_session_http.specs.declared.asked.Asked.{Asked}
 use Rattle.gp_session_http.specs.Turns.{Past, PastOf, aims_of}
-use Rattle.gp_session_http.specs.Trace.{asked_in, Asks, last_of, HasAim, IsAt, text_of, moment_of, TimesRow, Stays, Told}
-use Rattle.gp_session_http.specs.Moves.{IsReading, IsTalking, DialWaited, HasCode, EndSays, why_at, PassedOn, HasPassed, Pends, passed, waits, Used, AsksAtEnd, IsAtEnd, TimesAtEnd, shape_at_end, hung_up, ToldAtEnd, LeadsTo, Leads}
+use Rattle.gp_session_http.specs.Trace.{asked_in, Asks, last_of, text_of, Stays, Told}
+use Rattle.gp_session_http.specs.Moves.{IsReading, IsTalking, DialWaited, EndSays, why_at, HasPassed, Pends, passed, waits, Used, AsksAtEnd, IsAtEnd, TimesAtEnd, shape_at_end, hung_up, ToldAtEnd, LeadsTo, Leads}
 
 abbrev pub with_wire : LiveView → WireView → LiveView
 with_wire v w = record { wire = w; line = v.line; watch = v.watch; seat = v.seat; charter = v.charter; reports = v.reports }

@@ -1,12 +1,12 @@
 -- What passing a response on does to the rows of a session.
-use Rattle.std.proofs.Common.{◌≡◌, ◌≢◌, ℕ, ◌+◌, ◌<◌, ◌≤◌, Bool, true, false, List, [], ◌∷◌, ◌++◌, length, Option, Some, None, refl, sym, ap, ◌∙◌, subst, arith, append-nil, append_assoc, length-append, ◌⊎◌, inl, inr}
-use Rattle.std.specs.List.{All, flat_map}
+use Rattle.std.proofs.Common.{◌≡◌, ℕ, ◌+◌, ◌<◌, ◌≤◌, Bool, true, false, List, [], ◌∷◌, ◌++◌, length, Option, Some, None, refl, sym, ap, ◌∙◌, subst, arith, append-nil, append_assoc, length-append, inl, inr}
+use Rattle.std.specs.List.{flat_map}
 use Rattle.std.proofs.lemmas.Grind.{flat_map-append}
 use Rattle.std.proofs.lemmas.List.Elements.{All-nil, All-push}
 use Rattle.gp_plain.specs.declared.http.Response.{Response}
 use Rattle.gp_plain.specs.declared.reply.EndCause.{EndCause}
 use Rattle.gp_plain.specs.declared.reply.EndCause.TheVariants as cause
-use Rattle.gp_outside.specs.Dials.{DialTells, IsIdle}
+use Rattle.gp_outside.specs.Dials.{DialTells}
 use Rattle.gp_outside.specs.Links.{LinkTells}
 use Rattle.gp_outbox.specs.declared.outbox.Flushed.TheVariants as flushed
 use Rattle.gp_hub.specs.declared.outcome.SessionEnd.{SessionEnd}
@@ -29,8 +29,8 @@ use Rattle.gp_exchange.specs.declared.place.Place.{Place}
 use Rattle.gp_exchange.specs.declared.place.Place.TheVariants as place
 use Rattle.gp_exchange.specs.declared.answer.ExchangeFault.{ExchangeFault}
 use Rattle.gp_exchange.specs.declared.answer.Last.TheVariants as last
-use Rattle.gp_session.specs.Wires.{WireView, RequestRow, BytesRow, exactly, Sent, Flushes}
-use Rattle.gp_session.specs.Lines.{Aim, LineView, MovedLine, LineRow, Said, Last, idle, speaking, hung}
+use Rattle.gp_session.specs.Wires.{WireView, Sent, Flushes}
+use Rattle.gp_session.specs.Lines.{Aim, LineView, MovedLine, LineRow, Last, speaking, hung}
 use Rattle.gp_session.proofs.Moving.{rose_since}
 use Rattle.gp_session_http.specs.declared.asked.Asked.{Asked}
 use Rattle.gp_session_http.specs.declared.asking.Asking.{Asking as AskingStage}
@@ -39,16 +39,15 @@ use Rattle.gp_session_http.specs.declared.passing.Passing.{Passing as PassingSta
 use Rattle.gp_session_http.specs.declared.finishing.Finishing.{Finishing as FinishingStage}
 use Rattle.gp_session_http.specs.declared.stage.Stage.TheVariants.{Passing, Finishing}
 use Rattle.gp_session_http.specs.declared.stage.Ended.{Ended}
-use Rattle.gp_session_http.specs.declared.stage.Next.{Next}
 use Rattle.gp_session_http.specs.declared.stage.Next.TheVariants.{Go, Wait, End}
 use Rattle.gp_session_http.specs.Asking.{IsPassed}
 use Rattle.gp_session_http.specs.Passing.{code_by, framing_by, head_by, in_chunks, is_bare_by, asked_of, origin_head, has_no_body, IsPassedOn, passed_text, ArePartsOf}
 use Rattle.gp_session_http.specs.Views.{LiveView, Moved, SaysMore}
-use Rattle.gp_session_http.specs.Trace.{Serves, IsPassing, HasEndedBy, IsPassedBy, Told}
+use Rattle.gp_session_http.specs.Trace.{IsPassing, HasEndedBy, IsPassedBy, Told}
 use Rattle.gp_session_http.specs.declared.passing.Step.{Step}
 use Rattle.gp_session_http.specs.declared.passing.Step.TheVariants as step
-use Rattle.gp_session_http.specs.Moves.{waits, passed, StepsTo, PassedOn, Leads, StepsOn, HasAsked, said, HasHeadOf, IsBegunAt, HasGiven, HasGivenAll, IsCutBy, EndSays, end_by}
-use Rattle.gp_session_http.proofs.Rows.{with_wire, with_line, moved_line, moved_same, moved_again, moved_by_put, moved_unput, moved_flush, no_parts, says_put, says_same, says_again, told_flushed, leads_from}
+use Rattle.gp_session_http.specs.Moves.{waits, passed, StepsTo, PassedOn, Leads, HasAsked, said, HasHeadOf, IsBegunAt, HasGiven, HasGivenAll, EndSays, end_by}
+use Rattle.gp_session_http.proofs.Rows.{with_wire, with_line, moved_line, moved_again, moved_by_put, moved_unput, moved_flush, no_parts, says_put, says_same, says_again, told_flushed, leads_from}
 use Rattle.gp_session_http.proofs.Talking.{polled, put_on, put_none, over_hung, over_rank}
 
 -- how the text grows

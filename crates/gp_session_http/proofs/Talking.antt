@@ -1,17 +1,15 @@
 -- What asking an origin does to the rows of a session.
-use Rattle.std.proofs.Common.{◌≡◌, ◌≢◌, ℕ, ◌<◌, ◌≤◌, List, [], ◌++◌, Option, Some, None, refl, sym, ap, ◌∙◌, subst, arith, append-nil, ◌⊎◌, inl, inr}
+use Rattle.std.proofs.Common.{◌≡◌, ℕ, ◌<◌, ◌≤◌, List, [], ◌++◌, Some, None, refl, sym, ap, ◌∙◌, subst, arith, append-nil, ◌⊎◌, inl, inr}
 use Rattle.gp_plain.specs.declared.http.Address.{Address}
-use Rattle.gp_plain.specs.declared.http.Request.{Request}
 use Rattle.gp_plain.specs.declared.http.Response.{Response}
 use Rattle.gp_outside.specs.Counts.{Rose}
-use Rattle.gp_outside.specs.Dials.{DialTells, IsIdle}
+use Rattle.gp_outside.specs.Dials.{DialTells}
 use Rattle.gp_outside.specs.Links.{LinkTells}
 use Rattle.gp_hub.specs.declared.outcome.SessionEnd.TheVariants as end
 use Rattle.gp_hub.specs.declared.outcome.Why.{Why}
 use Rattle.gp_hub.specs.declared.outcome.Why.TheVariants as why
 use Rattle.gp_head.specs.Writable.{IsFieldValue}
-use Rattle.gp_routes.specs.Parts.{is_host}
-use Rattle.gp_forward.specs.Conditions.{CanAsk, ForwardLaw}
+use Rattle.gp_forward.specs.Conditions.{ForwardLaw}
 use Rattle.gp_intake.specs.declared.body.Whole.{Whole}
 use Rattle.gp_intake.proofs.Asking.{none_begun}
 use Rattle.gp_exchange.specs.Views.{ExchangeView}
@@ -21,13 +19,12 @@ use Rattle.gp_exchange.proofs.Causes.{rose_from}
 use Rattle.gp_exchange.specs.declared.answer.ExchangeFault.{ExchangeFault}
 use Rattle.gp_exchange.specs.declared.answer.ExchangeFault.TheVariants as fault
 use Rattle.gp_exchange.specs.declared.answer.Last.{Last as ExchangeLast}
-use Rattle.gp_exchange.specs.declared.answer.Last.TheVariants as last
 use Rattle.gp_exchange.specs.declared.place.Place.{Place}
 use Rattle.gp_exchange.specs.declared.place.Place.TheVariants as place
 use Rattle.gp_outbox.specs.declared.outbox.Flushed.{Flushed}
-use Rattle.gp_session.specs.Wires.{WireView, RequestRow, BytesRow, exactly, Sent, Flushes}
-use Rattle.gp_session.specs.Lines.{Aim, LineView, MovedLine, LineRow, Said, Last, idle, speaking, hung}
-use Rattle.gp_session.specs.Watches.{WatchView, WatchRow, MovedWatch, Uses, Asks as AsksClock}
+use Rattle.gp_session.specs.Wires.{WireView, Flushes}
+use Rattle.gp_session.specs.Lines.{Aim, LineView, MovedLine, LineRow, Last, idle, speaking, hung}
+use Rattle.gp_session.specs.Watches.{WatchView, WatchRow, Uses, Asks as AsksClock}
 use Rattle.gp_session.proofs.Lining.{begins_talk, is_hung}
 use Rattle.gp_session.proofs.Moving.{request_same, sent_same, sent_put, sent_flushed, moved_put, moved_flushed}
 use Rattle.gp_session_http.specs.declared.asked.Asked.{Asked}
@@ -48,8 +45,8 @@ use Rattle.gp_session_hold.specs.Rows.{HoldsRow, none as none_left}
 use Rattle.gp_session_hold.proofs.Rowing.{holds_none, entries_none, attaches_none}
 use Rattle.gp_session_http.specs.Turns.{Fresh, Past, first}
 use Rattle.gp_session_http.specs.Trace.{HeardAs, Serves, IsUnasked, WasAsked, Told}
-use Rattle.gp_session_http.specs.Moves.{waits, Used, Leads, IsUnanswered, IsServedAt, HasAsked, said, IsSpeakingAt, HasHeadOf, IsAnsweredAt, IsFailedAt}
-use Rattle.gp_session_http.proofs.Rows.{with_wire, with_line, with_watch, moved_line, moved_watch, moved_by_put, moved_unput, past_on, stays_wire, stays_line, stays_watch, no_parts}
+use Rattle.gp_session_http.specs.Moves.{waits, Used, Leads, IsServedAt, HasAsked, said, IsSpeakingAt, HasHeadOf, IsFailedAt}
+use Rattle.gp_session_http.proofs.Rows.{with_wire, with_line, with_watch, moved_watch, moved_by_put, moved_unput, past_on, stays_wire, stays_line, stays_watch, no_parts}
 use Rattle.gp_session_http.proofs.Hearing.{none_waits}
 
 -- what can be asked of a request that is served

@@ -1,7 +1,5 @@
 -- What is asked of an origin for a client, and why an origin's answer can't be passed on.
 use Rattle.std.specs.Prelude.{◌≡◌, ◌≢◌, ℕ, ◌+◌, ◌-◌, ◌^◌, ◌<◌, ◌⊎◌, min, Bool, true, false, List, [], ◌∷◌, ◌++◌, length, All, bytes_eq, codes, Option, Some, None, option_map, Result, Ok, Err, ⊤}
-use Rattle.gp_plain.specs.declared.http.Address.{Address}
-use Rattle.gp_plain.specs.declared.http.Request.{Request}
 use Rattle.gp_plain.specs.declared.http.Response.{Response}
 use Rattle.gp_plain.specs.declared.http.Signer.{Signer}
 use Rattle.gp_body.specs.declared.plan.BodyPlan.{BodyPlan}
@@ -28,9 +26,7 @@ use Rattle.gp_exchange.specs.Answers.{rank, head_of, IsOverBy}
 use Rattle.gp_exchange.specs.declared.answer.ExchangeFault.{ExchangeFault}
 use Rattle.gp_exchange.specs.declared.answer.ExchangeFault.TheVariants as fault
 use Rattle.gp_exchange.specs.declared.answer.Last.TheVariants as last
-use Rattle.gp_exchange.specs.declared.place.Place.{Place}
 use Rattle.gp_exchange.specs.declared.place.Place.TheVariants.{Unbegun}
-use Rattle.gp_intake.specs.declared.body.Whole.{Whole}
 use Rattle.gp_session.specs.Lines.{LineView}
 use Rattle.gp_session_wait.specs.declared.wait.Last.{Last as LastItem}
 use Rattle.gp_session_http.specs.declared.asked.Asked.{Asked}

@@ -1,5 +1,5 @@
 -- Where a move leads, why a session waits, and how it ends.
-use Rattle.std.specs.Prelude.{◌≡◌, ◌≢◌, ℕ, ◌+◌, ◌<◌, ◌⊎◌, true, false, List, [], ◌∷◌, ◌++◌, length, All, Option, Some, None, Result, OnOk, IfErr, Bool, ⊤}
+use Rattle.std.specs.Prelude.{◌≡◌, ◌≢◌, ℕ, ◌<◌, ◌⊎◌, false, List, [], ◌++◌, length, All, Option, Some, None, Result, OnOk, IfErr, Bool, ⊤}
 use Rattle.std.specs.List.{flat_map}
 use Rattle.gp_plain.specs.declared.reply.EndCause.{EndCause}
 use Rattle.gp_plain.specs.declared.reply.EndCause.TheVariants as cause_of_end

@@ -1,5 +1,5 @@
 -- How a response is passed on (RFC 9110, section 7.6; RFC 9112, section 6).
-use Rattle.std.specs.Prelude.{◌≡◌, ℕ, ◌<◌, Bool, true, false, List, [], ◌++◌, length, All, Option, Some, None}
+use Rattle.std.specs.Prelude.{◌≡◌, ℕ, ◌<◌, Bool, true, false, List, [], length, All, Option, Some, None}
 use Rattle.std.specs.List.{flat_map}
 use Rattle.gp_plain.specs.declared.http.Response.{Response}
 use Rattle.gp_plain.specs.declared.reply.EndCause.{EndCause}

@@ -1,5 +1,5 @@
 -- Which requests are forwarded and where, and why others are refused (RFC 9110, section 15.5).
-use Rattle.std.specs.Prelude.{◌≡◌, ℕ, true, false, List, ◌++◌, codes, Option, Some, None, ⊤}
+use Rattle.std.specs.Prelude.{◌≡◌, ℕ, true, false, List, ◌++◌, codes, Some, None, ⊤}
 use Rattle.gp_plain.specs.declared.http.Address.{Address}
 use Rattle.gp_plain.specs.declared.http.Request.{Request}
 use Rattle.gp_plain.specs.declared.http.Signer.{Signer}

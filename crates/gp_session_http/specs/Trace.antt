@@ -1,6 +1,6 @@
 -- What a session says of its link, its dialer, its clock and its pass after every move, row by row. All is said since the session
 -- began.
-use Rattle.std.specs.Prelude.{◌≡◌, ℕ, zero, suc, ◌<◌, ◌≤◌, ◌⊎◌, true, false, List, [], ◌++◌, length, Option, Some, None, ⊤}
+use Rattle.std.specs.Prelude.{◌≡◌, ℕ, zero, suc, ◌≤◌, ◌⊎◌, true, false, List, [], ◌++◌, length, Option, Some, None, ⊤}
 use Rattle.gp_plain.specs.declared.reply.EndCause.{EndCause}
 use Rattle.gp_plain.specs.declared.reply.EndCause.TheVariants.{Closed, Detached, Gap, Unrecovered, Overflow, Answered, Retry, TimedOut}
 use Rattle.gp_plain.specs.Roomy.{roomy}

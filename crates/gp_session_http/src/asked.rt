@@ -144,7 +144,9 @@ pub(crate) fn asked_again(
         None => None,
         Some(asked) => {
             let Asked {
-                request, address, ..
+                request,
+                address,
+                ..
             } = asked;
             Some(Asked {
                 request,

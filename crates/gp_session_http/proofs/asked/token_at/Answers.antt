@@ -1,9 +1,9 @@
-use Rattle.std.proofs.Common.{rules, ◌≡◌, ◌∙◌, ◌<◌, ◌^◌, ◌-◌, sym, ap, arith, subst, List, ℕ}
+use Rattle.std.proofs.Common.{rules, ◌≡◌, ◌<◌, ◌^◌, sym, arith, subst, List, ℕ}
 use Rattle.std.specs.Prelude.{Ok, Err, Result, IfOk}
 use Rattle.std.specs.declared.alloc.AllocError.{AllocError}
 use Rattle.gp_head.specs.Writable.{IsFieldValue}
-use Rattle.gp_sig.specs.Tokens.{token_of, IsPlain}
-use Rattle.gp_session_http.specs.Asking.{expiry, issuer}
+use Rattle.gp_sig.specs.Tokens.{IsPlain}
+use Rattle.gp_session_http.specs.Asking.{issuer}
 use Rattle.gp_session_http.proofs.asked.token_at.Goals as goal
 
 is_value : (r : Result (List ℕ) AllocError) (text : List ℕ) → IfOk r (λ x. x ≡ text) → IsFieldValue text → IfOk r IsFieldValue

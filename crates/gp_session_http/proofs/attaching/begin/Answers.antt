@@ -1,4 +1,4 @@
-use Rattle.std.proofs.Common.{sym, subst, refl, List, ℕ, []}
+use Rattle.std.proofs.Common.{sym, subst}
 use Rattle.gp_session_http.specs.Holding.{IsAttachedAt}
 use Rattle.gp_session_http.specs.Views.{LiveView}
 use Rattle.gp_session_http.proofs.Granting.{held_live, held_is}

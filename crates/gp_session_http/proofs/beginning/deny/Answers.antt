@@ -15,6 +15,6 @@ returns-clause-leads g c =
     let e = c.put.ensures in
     let text = put_text Unavailable Unavailable [] [] c.head.result.now c.empty.result c.body.result.now refl refl c.head.ensures c.empty.ensures c.body.ensures in
     held_live v c.args.live.now _ 5 _ c.live.view_is (elim c.match-put.branch [
-        | in-Ok w ↦ held_is v _ 5 _ _ w.result-is (denies v c.args.poll h c.put.new.self e.start e.link (w.in-Ok.ensures.ok ∙ ap (λ (xs : List ℕ). v.wire.rest ++ xs) text))
-        | in-Err w ↦ held_is v _ 5 _ _ w.result-is (denies_not v c.args.poll h c.put.new.self e.start e.link w.in-Err.ensures.err.1 _ refl)
-      ])
+      | in-Ok w ↦ held_is v _ 5 _ _ w.result-is (denies v c.args.poll h c.put.new.self e.start e.link (w.in-Ok.ensures.ok ∙ ap (λ (xs : List ℕ). v.wire.rest ++ xs) text))
+      | in-Err w ↦ held_is v _ 5 _ _ w.result-is (denies_not v c.args.poll h c.put.new.self e.start e.link w.in-Err.ensures.err.1 _ refl)
+    ])

@@ -1,9 +1,8 @@
 use Rattle.std.proofs.Common.{sym, subst, refl, ◌∙◌}
 use Rattle.gp_session_http.specs.LongPolls.{HasRepeated}
-use Rattle.gp_session_http.specs.Moves.{IsBegunWith}
 use Rattle.gp_session_http.specs.Views.{LiveView}
 use Rattle.gp_session_http.proofs.Granting.{held_live, held_is}
-use Rattle.gp_session_http.proofs.Awaiting.{asked_again_is, never_none, asks_again, repeats, repeats_not}
+use Rattle.gp_session_http.proofs.Awaiting.{asked_again_is, asks_again, repeats, repeats_not}
 use Rattle.gp_session_http.proofs.waiting.repeat.Goals as goal
 use Rattle.gp_session_http.proofs.waiting.repeat.Goals.{in-Ok, in-Err}
 

@@ -3,7 +3,7 @@ use Rattle.gp_session.specs.Lines.{speaking, hung}
 use Rattle.gp_session_http.specs.Asking.{is_head, IsGathered, IsInstructRefused, IsPassed}
 use Rattle.gp_session_http.specs.Views.{LiveView}
 use Rattle.gp_session_http.specs.Moves.{IsAnsweredAt, said}
-use Rattle.gp_session_http.proofs.Rows.{from_live, leads_from, with_line, moved_line, no_parts}
+use Rattle.gp_session_http.proofs.Rows.{from_live, leads_from, moved_line, no_parts}
 use Rattle.gp_session_http.proofs.Talking.{polled}
 use Rattle.gp_session_http.proofs.asking.Asking.answered.Goals as goal
 

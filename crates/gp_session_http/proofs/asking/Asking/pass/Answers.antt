@@ -1,4 +1,4 @@
-use Rattle.std.proofs.Common.{◌++◌, ◌∙◌, sym, refl, subst, ap, arith, append-nil, List, ℕ, []}
+use Rattle.std.proofs.Common.{◌++◌, ◌∙◌, sym, subst, ap, arith, List, ℕ, []}
 use Rattle.gp_session.specs.Lines.{speaking}
 use Rattle.gp_session_http.specs.Passing.{head_by}
 use Rattle.gp_session_http.specs.Views.{LiveView}

@@ -1,4 +1,4 @@
-use Rattle.std.proofs.Common.{◌++◌, ◌∙◌, sym, subst, ap, List, ℕ, []}
+use Rattle.std.proofs.Common.{◌++◌, ◌∙◌, sym, subst, ap, List, ℕ}
 use Rattle.gp_session_http.specs.Givings.{body_given, head_given}
 use Rattle.gp_session_http.specs.Moves.{IsAnsweredWith}
 use Rattle.gp_session_http.specs.Views.{LiveView}

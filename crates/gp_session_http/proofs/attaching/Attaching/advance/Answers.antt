@@ -1,4 +1,4 @@
-use Rattle.std.proofs.Common.{sym, subst, arith, refl, []}
+use Rattle.std.proofs.Common.{sym, subst, arith, refl}
 use Rattle.gp_session_http.specs.Turns.{specs_before}
 use Rattle.gp_session_http.specs.Holding.{AttachingTold}
 use Rattle.gp_session_http.specs.Views.{LiveView}

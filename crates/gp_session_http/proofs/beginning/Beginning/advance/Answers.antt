@@ -1,4 +1,4 @@
-use Rattle.std.proofs.Common.{sym, subst, arith, refl, ap, ◌∙◌, Some}
+use Rattle.std.proofs.Common.{sym, subst, arith, ap, ◌∙◌, Some}
 use Rattle.gp_session_http.specs.LongPolls.{BeginningTold}
 use Rattle.gp_session_http.specs.Turns.{specs_before}
 use Rattle.gp_session_http.specs.Views.{LiveView}

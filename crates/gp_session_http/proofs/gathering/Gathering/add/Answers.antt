@@ -1,4 +1,4 @@
-use Rattle.std.proofs.Common.{◌++◌, ◌∙◌, sym, subst, arith, List, ℕ, [], length}
+use Rattle.std.proofs.Common.{◌++◌, ◌∙◌, sym, subst, arith}
 use Rattle.gp_session_http.specs.Moves.{HasCome}
 use Rattle.gp_session_http.specs.Views.{LiveView}
 use Rattle.gp_session_http.proofs.Rows.{from_live, with_line, moved_line, leads_from}

@@ -1,4 +1,4 @@
-use Rattle.std.proofs.Common.{sym, subst, arith, []}
+use Rattle.std.proofs.Common.{arith}
 use Rattle.gp_session_http.specs.declared.stage.Stage.TheVariants as stage
 use Rattle.gp_session_http.specs.Views.{LiveView}
 use Rattle.gp_session_http.proofs.Rows.{told_live, from_live, with_line, moved_line, leads_from}

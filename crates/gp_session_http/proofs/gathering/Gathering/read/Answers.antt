@@ -1,6 +1,3 @@
-use Rattle.std.proofs.Common.{sym, subst}
-use Rattle.gp_session_http.specs.Moves.{HasComeAll}
-use Rattle.gp_session_http.specs.Views.{LiveView}
 use Rattle.gp_session_http.proofs.Collecting.{read_whole, read_refused, read_lost}
 use Rattle.gp_session_http.proofs.gathering.Gathering.read.Goals as goal
 

@@ -1,4 +1,4 @@
-use Rattle.std.proofs.Common.{refl, sym}
+use Rattle.std.proofs.Common.{refl}
 use Rattle.gp_session_http.specs.declared.stage.Stage.{Stage}
 use Rattle.gp_session_http.specs.declared.stage.Stage.TheVariants as stage
 use Rattle.gp_hub.specs.declared.outcome.SessionEnd.TheVariants as end

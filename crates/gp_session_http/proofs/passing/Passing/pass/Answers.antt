@@ -1,10 +1,10 @@
-use Rattle.std.proofs.Common.{◌++◌, ◌∙◌, sym, refl, subst, ap, arith, append-nil, List, ℕ, []}
+use Rattle.std.proofs.Common.{refl}
 use Rattle.gp_outbox.specs.declared.outbox.Flushed.TheVariants as flushed
 use Rattle.gp_session.specs.Lines.{speaking, hung}
 use Rattle.gp_session_http.specs.declared.stage.Stage.TheVariants as stage
 use Rattle.gp_session_http.specs.Passing.{asked_of, passed_text}
 use Rattle.gp_session_http.specs.Views.{LiveView}
-use Rattle.gp_session_http.specs.Moves.{said, HasGiven, HasGivenAll}
+use Rattle.gp_session_http.specs.Moves.{said}
 use Rattle.std.proofs.Common.{None}
 use Rattle.gp_session_http.proofs.Rows.{told_live, from_live, with_wire, with_line, moved_flush, moved_line, moved_again, told_flushed, says_flushed}
 use Rattle.gp_session_http.proofs.Talking.{polled, flushed_on}

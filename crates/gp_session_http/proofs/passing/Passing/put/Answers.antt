@@ -1,4 +1,4 @@
-use Rattle.std.proofs.Common.{◌++◌, sym, subst, []}
+use Rattle.std.proofs.Common.{◌++◌, sym, subst}
 use Rattle.gp_session_http.specs.declared.passing.Step.TheVariants as step
 use Rattle.gp_session_http.specs.declared.stage.Next.TheVariants.{End}
 use Rattle.gp_session_http.specs.Views.{LiveView}

@@ -1,10 +1,6 @@
-use Rattle.std.proofs.Common.{◌++◌, ◌∙◌, sym, refl, subst, ap, arith, append-nil, List, ℕ, []}
-use Rattle.gp_outbox.specs.declared.outbox.Flushed.TheVariants as flushed
-use Rattle.gp_session.specs.Lines.{speaking, hung}
+use Rattle.std.proofs.Common.{◌∙◌, refl, ap, arith}
 use Rattle.gp_session_http.specs.declared.stage.Stage.TheVariants as stage
-use Rattle.gp_session_http.specs.Passing.{asked_of, passed_text}
 use Rattle.gp_session_http.specs.Views.{LiveView}
-use Rattle.gp_session_http.specs.Moves.{said, HasGiven, HasGivenAll}
 use Rattle.gp_session_http.proofs.Rows.{told_live, from_live, with_line, moved_line, leads_from, says_same}
 use Rattle.gp_session_http.proofs.Sending.{steps_live, steps_from, gave_part, gave_all, cut_short, goes_on, lost}
 use Rattle.gp_session_http.proofs.passing.Passing.receive.Goals as goal

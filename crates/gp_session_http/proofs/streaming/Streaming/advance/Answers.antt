@@ -1,4 +1,4 @@
-use Rattle.std.proofs.Common.{sym, subst, arith, refl, Some, None}
+use Rattle.std.proofs.Common.{sym, subst, arith, refl, Some}
 use Rattle.gp_session_http.specs.Holding.{StreamingTold}
 use Rattle.gp_session_http.specs.Views.{LiveView}
 use Rattle.gp_session_http.proofs.Granting.{held_live, held_from, held_is, with_held}

@@ -1,4 +1,4 @@
-use Rattle.std.proofs.Common.{sym, subst, arith, refl, Some, None}
+use Rattle.std.proofs.Common.{sym, subst, arith, refl}
 use Rattle.gp_session_wait.specs.declared.wait.Polled.TheVariants as polled
 use Rattle.gp_session_http.specs.LongPolls.{WaitingTold}
 use Rattle.gp_session_http.specs.Views.{LiveView}
