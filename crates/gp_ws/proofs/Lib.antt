@@ -1,0 +1,4 @@
+pub mod FrameLemmas
+pub mod KeepLemmas
+pub mod UnreadLemmas
+pub mod FoundLemmas

@@ -1,1 +1,6 @@
 pub mod Handshakes
+pub mod Unread
+pub mod Ends
+pub mod Frames
+pub mod Heads
+pub mod Cuts

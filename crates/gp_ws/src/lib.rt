@@ -4,6 +4,12 @@
 //! stands on `gp_text`, and on `sha1` and `base64`.
 #![tactic(auto)]
 
+mod frame;
+mod unread;
+mod input;
+mod head;
 mod upgrade;
 
+pub use head::frame_head;
+pub use input::{WsIn, WsNext};
 pub use upgrade::{UpgradeFault, accept_key, handshake, is_upgrade};
