@@ -2,3 +2,5 @@ pub mod FrameLemmas
 pub mod KeepLemmas
 pub mod UnreadLemmas
 pub mod FoundLemmas
+pub mod HeadLemmas
+pub mod CutLemmas

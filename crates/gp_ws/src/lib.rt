@@ -8,8 +8,10 @@ mod frame;
 mod unread;
 mod input;
 mod head;
+mod law;
 mod upgrade;
 
 pub use head::frame_head;
+pub use law::cut_law;
 pub use input::{WsIn, WsNext};
 pub use upgrade::{UpgradeFault, accept_key, handshake, is_upgrade};

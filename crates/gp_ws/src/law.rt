@@ -1,0 +1,8 @@
+//! The laws of frames, the contract of a call.
+ghost use Rattle.gp_ws.specs.Cuts.{CutLaw};
+
+/// Messages don't depend on how the bytes of a client are cut into reads: to read, to be fed more and to read again gives what is given
+/// where all was fed first.
+pub fn cut_law()
+    ensures { CutLaw }
+{}
