@@ -1,5 +1,5 @@
 -- To read, to be fed more and to read again is to be fed first.
-use Rattle.std.proofs.Common.{◌≡◌, ℕ, zero, suc, ◌+◌, ◌-◌, ◌<◌, ◌≤◌, Bool, true, false, List, [], ◌∷◌, ◌++◌, length, drop, Option, Some, None, Ok, Err, refl, sym, ap, ◌∙◌, subst, arith, append_assoc, append-nil, length-append, length-drop}
+use Rattle.std.proofs.Common.{◌≡◌, ℕ, zero, suc, ◌<◌, ◌≤◌, Bool, true, false, List, [], ◌∷◌, ◌++◌, length, drop, Option, Some, None, Ok, Err, refl, sym, ap, ◌∙◌, subst, arith, append_assoc, length-append, length-drop}
 use Rattle.std.specs.Prelude.{if◌then◌else◌}
 use Rattle.std.proofs.lemmas.List.{drop-append-le}
 use Rattle.websocket.specs.declared.protocol.frame.codec.FrameStatus.TheVariants.{Partial, Complete}
@@ -7,20 +7,19 @@ use Rattle.websocket.specs.declared.protocol.incomplete.MessageType.{MessageType
 use Rattle.websocket.specs.FrameHeader.{decode_header}
 use Rattle.websocket.specs.Frame.{decode_frame}
 use Rattle.websocket.specs.Content.{Content}
-use Rattle.websocket.specs.Connection.{Connection, Effect, read_step}
+use Rattle.websocket.specs.Connection.{read_step}
 use Rattle.websocket.proofs.FrameLemmas.{Waits}
 use Rattle.websocket.proofs.StreamLemmas.{TookFrame_from_read, read_step-append}
 use Rattle.gp_plain.specs.declared.item.Message.{Message}
 use Rattle.gp_ws.specs.Unread.{Unread}
 use Rattle.gp_ws.specs.declared.frame.Framed.{Framed}
 use Rattle.gp_ws.specs.declared.frame.Framed.TheVariants as Frame
-use Rattle.gp_ws.specs.declared.input.WsNext.{WsNext}
 use Rattle.gp_ws.specs.declared.input.WsNext.TheVariants as Next
 use Rattle.gp_ws.specs.declared.input.WsReading.{WsReading}
 use Rattle.gp_ws.specs.declared.input.WsReading.TheVariants.{Open, Ended, Bad, NoMemory}
 use Rattle.gp_ws.specs.Ends.{data_end}
-use Rattle.gp_ws.specs.Frames.{Outcome, Found, Answer, answer_of, end_by, end_for, end_after, found_by, found_in, first_message, framed, framed_by, is_close, is_control, left_by, next_of, read_of, reading_by, IsUsedBy}
-use Rattle.gp_ws.specs.Cuts.{fed, answered, answered_by}
+use Rattle.gp_ws.specs.Frames.{Outcome, Found, answer_of, end_for, end_after, found_by, first_message, framed, framed_by, is_close, is_control, left_by, next_of, read_of, reading_by}
+use Rattle.gp_ws.specs.Cuts.{fed, answered}
 use Rattle.gp_ws.proofs.FoundLemmas.{none_of}
 
 -- more bytes behind those that wait
@@ -48,7 +47,7 @@ control_more : (waiting more : List ℕ) → 0 < length waiting → is_control (
 control_more [] more some = absurd (omega arith)
 control_more (b ∷ bs) more some = refl
 
-abbrev left_with : Option (MessageType × List ℕ) → Bool → Outcome → List ℕ → Unread
+abbrev pub left_with : Option (MessageType × List ℕ) → Bool → Outcome → List ℕ → Unread
 left_with fragments control o bytes = record {
   fragments = if control then fragments else (end_after (data_end fragments) o).fragments;
   waiting = bytes;
@@ -109,7 +108,7 @@ same_by f g now Frame.Bad is same = refl
 same_by f g now Frame.NoMemory is same = refl
 
 -- frames are at most as many as bytes
-enough_frames : (n m : ℕ) (now : Unread) → length now.waiting ≤ n → length now.waiting ≤ m → first_message n now ≡ first_message m now
+pub enough_frames : (n m : ℕ) (now : Unread) → length now.waiting ≤ n → length now.waiting ≤ m → first_message n now ≡ first_message m now
 unfolding first_message
 enough_frames zero m now less more = sym (none_of m now (omega arith))
 enough_frames (suc n) zero now less more = none_of (suc n) now (omega arith)

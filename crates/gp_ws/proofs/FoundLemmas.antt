@@ -39,6 +39,7 @@ found_more before now after count so_far part used =
           so_far.says ∙ more_of so_far.most now (omega (arith, so_far.enough, used.some, used.within))
           ∙ ap (found_by (first_message (so_far.most - 1)) now) part ∙ ap (first_message (so_far.most - 1)) (sym used.left);
     }
+
 found_last : (before now : Unread) (r : Framed) → FoundSoFar before now → 0 < length now.waiting → framed (read_of now) ≡ r
     → (most : ℕ) × (found_in before ≡ found_by (first_message most) now r)
 found_last before now r so_far some read =

@@ -1,16 +1,15 @@
 -- What a read leaves.
-use Rattle.std.proofs.Common.{◌≡◌, ℕ, List, length, drop, Option, Some, None, Result, Ok, Err, ◌⊎◌, inl, inr, refl, sym, subst}
-use Rattle.websocket.specs.declared.error.Error.{Error}
+use Rattle.std.proofs.Common.{◌≡◌, ℕ, List, Option, Some, None, Ok, Err, ◌⊎◌, inl, inr, refl}
 use Rattle.websocket.specs.declared.protocol.context.Step.{Step}
 use Rattle.websocket.specs.declared.protocol.frame.codec.FrameStatus.{FrameStatus}
 use Rattle.websocket.specs.declared.protocol.frame.codec.FrameStatus.TheVariants.{Partial, Complete}
 use Rattle.websocket.specs.Content.{Content}
-use Rattle.websocket.specs.Connection.{Connection, Effect, read_step}
+use Rattle.websocket.specs.Connection.{Connection, read_step}
 use Rattle.websocket.specs.View.{Returns, ReadLeaves, KeepsRest}
 use Rattle.websocket.proofs.StreamLemmas.{TookFrame_from_read}
 use Rattle.gp_ws.specs.declared.frame.Framed.{Framed}
 use Rattle.gp_ws.specs.declared.frame.Framed.TheVariants as Frame
-use Rattle.gp_ws.specs.Frames.{Outcome, framed_by, end_after, IsTaken, IsLeft}
+use Rattle.gp_ws.specs.Frames.{Outcome, framed_by, IsTaken, IsLeft}
 
 is_taken : (before after : Connection) (old new written more : List ℕ) (step : Step) (o : Outcome) → read_step before old ≡ o
     → Returns o new (Complete step) → ReadLeaves o before after written more → KeepsRest (Complete step) old new → IsTaken before old step.consumed after new

@@ -1,5 +1,5 @@
 -- The header of a frame, in its three sizes.
-use Rattle.std.proofs.Common.{◌≡◌, ℕ, ◌+◌, ◌<◌, ◌≤◌, List, [], ◌∷◌, ◌++◌, length, take, drop, Some, None, refl, sym, ap, ◌∙◌, subst, arith, append-nil, ltb, lt-ltb, le-ltb, true, false}
+use Rattle.std.proofs.Common.{◌≡◌, ℕ, ◌+◌, ◌<◌, ◌≤◌, List, [], ◌∷◌, length, take, drop, None, refl, sym, ◌∙◌, subst, arith, append-nil, ltb, lt-ltb, le-ltb, true, false}
 use Rattle.std.specs.Prelude.{slice_set}
 use Rattle.std.specs.Int.{w16, w64, to_be_bytes}
 use Rattle.std.proofs.lemmas.List.{take_at}

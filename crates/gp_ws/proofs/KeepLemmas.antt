@@ -1,6 +1,6 @@
 -- A frame that is no control frame changes nothing of a connection but its fragments.
-use Rattle.std.proofs.Common.{◌≡◌, ℕ, ◌<◌, ◌≤◌, ◌%◌, Bool, true, false, cond, eqb, List, [], ◌∷◌, ◌++◌, length, drop, get_or, Option, Some, None, Result, Ok, Err, refl, sym, ap, ◌∙◌, subst, arith}
-use Rattle.std.specs.Prelude.{nat_lt, nat_le, ◌==◌}
+use Rattle.std.proofs.Common.{◌≡◌, ℕ, ◌%◌, Bool, true, false, cond, eqb, List, [], ◌∷◌, ◌++◌, length, Option, Some, None, Result, Ok, Err, refl, sym, ap, ◌∙◌, arith}
+use Rattle.std.specs.Prelude.{nat_lt, nat_le}
 use Rattle.std.proofs.lemmas.Bool.{ne_eqb}
 use Rattle.std.proofs.lemmas.Bool.Decides.{nat_tests}
 use Rattle.websocket.specs.declared.error.Error.{Error}
@@ -11,16 +11,14 @@ use Rattle.websocket.specs.declared.protocol.frame.coding.OpCode.{OpCode}
 use Rattle.websocket.specs.declared.protocol.frame.coding.OpCode.TheVariants as Op
 use Rattle.websocket.specs.declared.protocol.frame.coding.Data.{Data}
 use Rattle.websocket.specs.declared.protocol.frame.coding.Data.TheVariants.{Continue, Text, Binary}
-use Rattle.websocket.specs.declared.protocol.frame.coding.Control.{Control}
 use Rattle.websocket.specs.declared.protocol.frame.coding.Control.TheVariants.{Close, Ping, Pong}
 use Rattle.websocket.specs.declared.protocol.frame.header.FrameHeader.{FrameHeader}
 use Rattle.websocket.specs.declared.protocol.frame.codec.RawFrame.{RawFrame}
 use Rattle.websocket.specs.declared.protocol.frame.codec.FrameStatus.{FrameStatus}
 use Rattle.websocket.specs.declared.protocol.frame.codec.FrameStatus.TheVariants.{Partial, Complete}
 use Rattle.websocket.specs.OpCode.{opcode_bits, parse_opcode}
-use Rattle.websocket.specs.Mask.{apply_mask_if}
-use Rattle.websocket.specs.FrameHeader.{Decoded, decode_header, decode_after_opcode, decode_mask, decode_length, extended_len, header_from, is_set}
-use Rattle.websocket.specs.Frame.{Checked, after_check, check_size, decode_frame, frame_after_header, frame_at}
+use Rattle.websocket.specs.FrameHeader.{Decoded, decode_header, decode_after_opcode, decode_mask, header_from}
+use Rattle.websocket.specs.Frame.{check_size, decode_frame, frame_after_header}
 use Rattle.websocket.specs.Content.{Content}
 use Rattle.websocket.specs.Connection.{Connection, Effect, complete_message, check_so_far, deliver, on_message_bytes, on_data_after, on_data, on_opcode, check_header, on_frame, consumed_with, read_decoded, read_step}
 use Rattle.websocket.proofs.StreamLemmas.{after_check_passed}
@@ -29,23 +27,24 @@ use Rattle.gp_ws.specs.declared.frame.Framed.{Framed}
 use Rattle.gp_ws.specs.declared.frame.Framed.TheVariants as Frame
 use Rattle.gp_ws.specs.Frames.{Outcome, is_control, is_refused, end_after, IsTaken, IsLeft}
 
--- all but the fragments is kept
-abbrev pub KeepsEnd : Connection → Effect → Type 0
-KeepsEnd conn effect = effect.next ≡ record conn { fragments = effect.next.fragments }
+-- all but the fragments is kept, and behind a message there are none
+record KeepsEnd (conn : Connection) (effect : Effect) : Type 0 where
+  kept : effect.next ≡ record conn { fragments = effect.next.fragments }
+  ended : (content : Content) → effect.message ≡ Some content → effect.next.fragments ≡ None
 
 ok_is : {A : Type 0} {a b : A} → ◌≡◌ {A = Result A Error} (Ok a) (Ok b) → b ≡ a
 ok_is e = cc e
 
 deliver_keeps : (conn : Connection) (content : Result Content Error) (effect : Effect) → deliver conn content ≡ Ok effect → KeepsEnd conn effect
 deliver_keeps conn (Err e) effect is = absurd (cc is)
-deliver_keeps conn (Ok content) effect is = rw (ok_is is) refl
+deliver_keeps conn (Ok content) effect is = rw (ok_is is) (record { kept = refl; ended = λ _ _. refl })
 
 bytes_keep : (conn : Connection) (kind : MessageType) (is_final : Bool) (bs : List ℕ) (effect : Effect) → on_message_bytes conn kind is_final bs ≡ Ok effect → KeepsEnd conn effect
 unfolding on_message_bytes
 bytes_keep conn kind true bs effect is =
     deliver_keeps conn (complete_message kind bs) effect (after_check_passed (check_size (length bs) conn.config.max_message_size) _ effect is)
 bytes_keep conn kind false bs effect is =
-    rw (ok_is (after_check_passed (check_so_far kind bs) _ effect (after_check_passed (check_size (length bs) conn.config.max_message_size) _ effect is))) refl
+    rw (ok_is (after_check_passed (check_so_far kind bs) _ effect (after_check_passed (check_size (length bs) conn.config.max_message_size) _ effect is))) (record { kept = refl; ended = λ content none. absurd (cc none) })
 
 data_keeps : (conn : Connection) (fragments : Option (MessageType × List ℕ)) (kind : Data) (is_final : Bool) (payload : List ℕ) (effect : Effect)
     → on_data_after conn fragments kind is_final payload ≡ Ok effect → KeepsEnd conn effect
@@ -159,7 +158,12 @@ pub data_kept : (fragments : Option (MessageType × List ℕ)) (bytes : List ℕ
     → end_after (data_end fragments) o ≡ data_end (end_after (data_end fragments) o).fragments
 data_kept fragments bytes (Err fault) data_is is = refl
 data_kept fragments bytes (Ok (Partial needed)) data_is is = refl
-data_kept fragments bytes (Ok (Complete p)) data_is is = end_keeps fragments bytes p data_is is
+data_kept fragments bytes (Ok (Complete p)) data_is is = (end_keeps fragments bytes p data_is is).kept
+
+-- behind a message there are no fragments
+pub message_ends : (fragments : Option (MessageType × List ℕ)) (bytes : List ℕ) (p : ℕ × Effect) (content : Content) → is_control bytes ≡ false
+    → read_step (data_end fragments) bytes ≡ Ok (Complete p) → p.1.message ≡ Some content → p.1.next.fragments ≡ None
+message_ends fragments bytes p content data_is is message = (end_keeps fragments bytes p data_is is).ended content message
 
 taken_kept : (before after : Connection) (old new : List ℕ) (count : ℕ) → is_control old ≡ false → before ≡ data_end before.fragments → IsTaken before old count after new
     → after ≡ data_end after.fragments

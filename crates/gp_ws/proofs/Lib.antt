@@ -4,3 +4,4 @@ pub mod UnreadLemmas
 pub mod FoundLemmas
 pub mod HeadLemmas
 pub mod CutLemmas
+pub mod SentLemmas

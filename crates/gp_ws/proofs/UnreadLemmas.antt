@@ -1,5 +1,5 @@
 -- The bytes that wait behind a frame.
-use Rattle.std.proofs.Common.{◌≡◌, ℕ, ◌+◌, ◌-◌, ◌≤◌, List, [], ◌++◌, length, take, drop, Option, refl, sym, ap, ◌∙◌, subst, arith, append-nil, length-take-le, length-drop}
+use Rattle.std.proofs.Common.{◌≡◌, ℕ, ◌+◌, ◌-◌, ◌≤◌, List, [], ◌++◌, length, take, drop, Option, sym, ap, ◌∙◌, subst, arith, append-nil, length-take-le, length-drop}
 use Rattle.std.proofs.lemmas.List.{drop-drop, drop_at, take_all}
 use Rattle.websocket.specs.declared.protocol.incomplete.MessageType.{MessageType}
 use Rattle.gp_ws.specs.Unread.{Unread}

@@ -1,6 +1,5 @@
 -- Messages don't depend on how the bytes of a client are cut into reads.
 use Rattle.std.specs.Prelude.{ℕ, ◌≡◌, List, ◌++◌}
-use Rattle.gp_ws.specs.Unread.{Unread}
 use Rattle.gp_ws.specs.declared.input.WsNext.{WsNext}
 use Rattle.gp_ws.specs.declared.input.WsNext.TheVariants as Next
 use Rattle.gp_ws.specs.declared.input.WsReading.{WsReading}

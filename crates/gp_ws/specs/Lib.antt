@@ -4,3 +4,4 @@ pub mod Ends
 pub mod Frames
 pub mod Heads
 pub mod Cuts
+pub mod Sent

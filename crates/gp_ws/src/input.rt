@@ -24,7 +24,7 @@ pub enum WsNext {
 
 /// How far the bytes of a client were read.
 #[derive(Drop)]
-pub enum WsReading {
+pub(crate) enum WsReading {
     /// More messages may come.
     Open(Frames),
     /// A close message came.

@@ -11,7 +11,7 @@ use websocket::protocol::WebSocketContext;
 /// The frames of a client, as far as they came. Contracts see the fragments of a message that isn't whole, and the bytes that
 /// weren't used.
 #[derive(Drop)]
-pub struct Frames {
+pub(crate) struct Frames {
     alloc: Global,
     /// The connection of all frames but control frames.
     end: WebSocketContext,
