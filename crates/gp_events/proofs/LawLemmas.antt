@@ -1,5 +1,5 @@
 -- Bytes that are read as events spell them.
-use Rattle.std.proofs.Common.{◌≡◌, ℕ, zero, suc, ◌+◌, ◌-◌, ◌<◌, ◌≤◌, Bool, true, false, cond, ◌&&◌, nat_lt, leb, List, [], ◌∷◌, ◌++◌, length, take, drop, Option, Some, None, Result, Ok, Err, refl, sym, ap, ◌∙◌, subst, arith, append_assoc, append-nil, length-append, length-take-le, length-drop, take-append-drop}
+use Rattle.std.proofs.Common.{◌≡◌, ℕ, zero, suc, ◌+◌, ◌<◌, ◌≤◌, Bool, true, false, ◌&&◌, nat_lt, leb, List, [], ◌∷◌, ◌++◌, length, take, drop, Option, Some, None, Result, Ok, Err, refl, sym, ap, ◌∙◌, subst, arith, append_assoc, length-append, length-take-le, length-drop, take-append-drop}
 use Rattle.std.specs.Char.{is_ascii_hexdigit}
 use Rattle.std.specs.List.{find, list_all, prefix_len}
 use Rattle.std.specs.Str.Parse.{digits_value}
@@ -9,11 +9,10 @@ use Rattle.std.proofs.lemmas.List.{drop-drop, drop_at, nil_from_length}
 use Rattle.std.proofs.lemmas.List.Sums.{prefix_len-le-length}
 use Rattle.std.proofs.lemmas.Slice.Eq.{starts_is}
 use Rattle.gp_events.specs.declared.event.EventKind.{EventKind}
-use Rattle.gp_events.specs.declared.event.EventKind.TheVariants.{Opens, Text, Binary, Ping, Pong, Close, Disconnect}
 use Rattle.gp_events.specs.declared.event.WsEvent.{WsEvent}
 use Rattle.gp_events.specs.declared.event.EventFault.{EventFault}
 use Rattle.gp_events.specs.declared.read.SizeText.{SizeText}
-use Rattle.gp_events.specs.Spellings.{name_of, crlf, space, IsSize, IsContentText, IsSpelling, AreSpelled}
+use Rattle.gp_events.specs.Spellings.{name_of, crlf, space, IsSize, IsSpelling, AreSpelled}
 use Rattle.gp_events.specs.Events.{Found, begins_with, kind_at, kinds, digit_count, is_size, size_at, content_at, sized_at, named_at, kinded_at, event_at, behind, follow, events_from, events_of}
 use Rattle.gp_events.proofs.SpellLemmas.{spelled_some}
 

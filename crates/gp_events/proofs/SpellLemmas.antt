@@ -1,17 +1,14 @@
 -- Bytes that spell events are read as those events.
-use Rattle.std.proofs.Common.{◌≡◌, ℕ, zero, suc, ◌+◌, ◌-◌, ◌<◌, ◌≤◌, Bool, true, false, cond, ◌&&◌, List, [], ◌∷◌, ◌++◌, length, take, drop, Option, Some, None, Result, Ok, Err, refl, sym, ap, ◌∙◌, subst, arith, append_assoc, append-nil, length-append, le-leb, le-ltb}
+use Rattle.std.proofs.Common.{◌≡◌, ℕ, suc, ◌+◌, ◌-◌, ◌<◌, ◌≤◌, Bool, true, false, ◌&&◌, List, [], ◌∷◌, ◌++◌, length, take, drop, Option, Some, None, Ok, refl, sym, ap, ◌∙◌, arith, append_assoc, length-append, le-leb, le-ltb}
 use Rattle.std.specs.Char.{is_ascii_hexdigit}
 use Rattle.std.specs.List.{list_all, prefix_len}
-use Rattle.std.specs.Str.Parse.{digits_value}
 use Rattle.std.proofs.Math.Seq.{drop-append_seam, take-append_seam}
-use Rattle.std.proofs.lemmas.List.{drop_at, take_at}
+use Rattle.std.proofs.lemmas.List.{drop_at}
 use Rattle.gp_events.specs.declared.event.EventKind.{EventKind}
 use Rattle.gp_events.specs.declared.event.EventKind.TheVariants.{Opens, Text, Binary, Ping, Pong, Close, Disconnect}
 use Rattle.gp_events.specs.declared.event.WsEvent.{WsEvent}
-use Rattle.gp_events.specs.declared.event.EventFault.{EventFault}
-use Rattle.gp_events.specs.declared.read.SizeText.{SizeText}
-use Rattle.gp_events.specs.Spellings.{name_of, crlf, space, IsSize, IsContentText, IsSpelling, AreSpelled}
-use Rattle.gp_events.specs.Events.{Found, begins_with, kind_at, digit_count, is_size, size_at, content_at, sized_at, named_at, kinded_at, event_at, behind, follow, events_from, events_of}
+use Rattle.gp_events.specs.Spellings.{name_of, crlf, IsSize, IsContentText, IsSpelling, AreSpelled}
+use Rattle.gp_events.specs.Events.{kind_at, digit_count, size_at, content_at, sized_at, named_at, kinded_at, event_at, behind, follow, events_from, events_of}
 use Rattle.gp_events.proofs.ReadLemmas.{more_from, none_from}
 
 -- ---- one event

@@ -25,7 +25,7 @@ pub enum EventKind {
 
 impl EventKind {
     /// The name that begins an event of this kind.
-    pub fn name(self) -> &'static [u8]
+    pub(crate) fn name(self) -> &'static [u8]
         ensures { result.now ≡ name_of self }
     {
         match self {

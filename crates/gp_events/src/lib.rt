@@ -2,14 +2,16 @@
 //! `application/websocket-events`, and the control texts that an origin sends among them.
 //!
 //! `specs/Spellings.antt` says how an event is spelled, and `specs/Events.antt` which events bytes spell and where the first
-//! fault is. `events_law` ties the two: bytes that spell events are read as those events. `specs/Controls.antt` has the control
-//! texts. It stands on gp_plain, gp_json and `serde_json`, and has no handle.
+//! fault is. `events_law` ties the two: the bytes that are read as events are those that spell them. `specs/Controls.antt` has the
+//! control texts. It stands on gp_plain, gp_json and `serde_json`, and has no handle.
 #![tactic(auto)]
 
 mod control;
 mod event;
 mod law;
 mod read;
+#[cfg(test)]
+mod tests;
 mod write;
 
 pub use control::{Control, read_control};

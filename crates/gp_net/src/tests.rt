@@ -1,4 +1,5 @@
 //! A dialer calls a listener over loopback.
+use crate::names::Names;
 use crate::{NetClock, NetDial, NetIdle, NetKit, NetLink, NetListen, Ports};
 use gp_outside::{Accepted, Clock, Connected, Dial, Got, Idle, Kit, Link, Listen, Put};
 use gp_plain::{Address, Body};
@@ -10,7 +11,11 @@ use std::time;
 /// The rests that are waited for one answer, at most.
 const RESTS: u32 = 100;
 
-fn connect<R: Net + Drop>(dial: &mut NetDial<R>, to: &Address, idle: &mut NetIdle) -> Connected {
+fn connect<R: Net + time::Clock + Drop>(
+    dial: &mut NetDial<R>,
+    to: &Address,
+    idle: &mut NetIdle,
+) -> Connected {
     for _ in 0..RESTS {
         match dial.connect(to) {
             Connected::NotReady => idle.rest(),
@@ -42,7 +47,11 @@ fn read(link: &mut NetLink, idle: &mut NetIdle, into: &mut [u8; 16]) -> Got {
     Got::NotReady
 }
 
-fn hear<R: Net + Drop>(dial: &mut NetDial<R>, idle: &mut NetIdle, into: &mut [u8; 16]) -> Got {
+fn hear<R: Net + time::Clock + Drop>(
+    dial: &mut NetDial<R>,
+    idle: &mut NetIdle,
+    into: &mut [u8; 16],
+) -> Got {
     for _ in 0..RESTS {
         match dial.read(into) {
             Got::NotReady => idle.rest(),
@@ -64,7 +73,11 @@ fn write_on(link: &mut NetLink, idle: &mut NetIdle) -> Put {
 }
 
 /// Whether a link that was sent nothing isn't ready, and hears a word, and its answer comes back.
-fn speaks<R: Net + Drop>(dial: &mut NetDial<R>, link: &mut NetLink, idle: &mut NetIdle) -> bool {
+fn speaks<R: Net + time::Clock + Drop>(
+    dial: &mut NetDial<R>,
+    link: &mut NetLink,
+    idle: &mut NetIdle,
+) -> bool {
     let mut bytes = [0u8; 16];
     link.read(&mut bytes) == Got::NotReady
         && link.read(&mut bytes) == Got::NotReady
@@ -77,7 +90,11 @@ fn speaks<R: Net + Drop>(dial: &mut NetDial<R>, link: &mut NetLink, idle: &mut N
 }
 
 /// Whether a link notices that the other side hung up, and the dialer is in no talk then.
-fn ends<R: Net + Drop>(dial: &mut NetDial<R>, link: &mut NetLink, idle: &mut NetIdle) -> bool {
+fn ends<R: Net + time::Clock + Drop>(
+    dial: &mut NetDial<R>,
+    link: &mut NetLink,
+    idle: &mut NetIdle,
+) -> bool {
     let mut bytes = [0u8; 16];
     dial.hang_up();
     read(link, idle, &mut bytes) == Got::End
@@ -87,7 +104,7 @@ fn ends<R: Net + Drop>(dial: &mut NetDial<R>, link: &mut NetLink, idle: &mut Net
 }
 
 /// Whether a whole talk goes well.
-fn talks<R: Net + Drop>(
+fn talks<R: Net + time::Clock + Drop>(
     dial: &mut NetDial<R>,
     listen: &mut NetListen,
     idle: &mut NetIdle,
@@ -110,7 +127,7 @@ fn calls_over_loopback(rt: HostRuntime) -> Result<(), Fail> {
     let socket = TcpListener::bind(&rt, SocketAddr::from((Ipv4Addr::LOCALHOST, 0)))?;
     let port = socket.local_addr()?.port();
     let mut listen = NetListen::new(socket, idle.sockets()?)?;
-    let mut dial = NetDial::new(alloc, rt, Some(idle.sockets()?));
+    let mut dial = NetDial::new(alloc, rt, Some(Names::new(alloc)?), Some(idle.sockets()?));
     let by_number = Address {
         host: Body::new(alloc, b"127.0.0.1")?,
         port,

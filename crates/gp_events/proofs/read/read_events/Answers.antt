@@ -1,7 +1,6 @@
-use Rattle.std.proofs.Common.{◌≡◌, ◌-◌, ℕ, List, length, take, drop, Ok, subst, sym, ◌∙◌, arith, ap}
+use Rattle.std.proofs.Common.{Ok, subst, sym, ◌∙◌, arith, ap}
 use Rattle.std.proofs.lemmas.Result.{err_from_is_err_and}
-use Rattle.gp_events.specs.declared.event.WsEvent.{WsEvent}
-use Rattle.gp_events.specs.Events.{as_found, event_at, IsFaultOf}
+use Rattle.gp_events.specs.Events.{as_found}
 use Rattle.gp_events.proofs.ReadLemmas.{ReadSoFar, read_none, read_more, is_fault, read_all, rest_is}
 use Rattle.gp_events.proofs.read.read_events.Goals as goal
 

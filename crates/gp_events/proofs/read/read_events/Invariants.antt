@@ -1,4 +1,4 @@
-use Rattle.std.proofs.Common.{length, ◌-◌, ◌≤◌}
+use Rattle.std.proofs.Common.{length, ◌-◌}
 use Rattle.gp_events.proofs.ReadLemmas.{ReadSoFar}
 use Rattle.gp_events.proofs.read.read_events.Given as goal
 

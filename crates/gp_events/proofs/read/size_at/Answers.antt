@@ -1,4 +1,4 @@
-use Rattle.std.proofs.Common.{◌≡◌, ℕ, take, subst, sym}
+use Rattle.std.proofs.Common.{ℕ, take, subst, sym}
 use Rattle.std.specs.Str.Parse.{AllDigits}
 use Rattle.gp_events.proofs.SizeLemmas.{front_digits}
 use Rattle.gp_events.proofs.read.size_at.Goals as goal

@@ -1,4 +1,4 @@
-use Rattle.std.proofs.Common.{◌+◌, arith}
+use Rattle.std.proofs.Common.{arith}
 use Rattle.std.proofs.lemmas.Int.Digits.{digits_value_more}
 use Rattle.gp_events.proofs.SizeLemmas.{digit_below, size_step}
 use Rattle.gp_events.proofs.read.size_of.Goals as goal
