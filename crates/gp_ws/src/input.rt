@@ -50,13 +50,13 @@ impl Model for WsIn {
 }
 
 impl WsIn {
-    /// No byte came. It takes no memory.
-    pub fn new(alloc: Global) -> WsIn
-        ensures { result ≡ WsReading.Open (record { fragments = None; waiting = [] }) }
+    /// No byte came. It takes no memory, so it is always Ok.
+    pub fn new(alloc: Global) -> Result<WsIn, AllocError>
+        ensures { result ≡ Ok (WsReading.Open (record { fragments = None; waiting = [] })) }
     {
-        WsIn {
+        Ok(WsIn {
             reading: WsReading::Open(Frames::new(alloc)),
-        }
+        })
     }
 
     /// Adds bytes that came. It keeps those that `next` hasn't used, and no more. Where memory is wanting, nothing has changed. Once

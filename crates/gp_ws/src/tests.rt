@@ -112,7 +112,7 @@ fn tell_all(
 fn read_in(alloc: Global, bytes: &[u8], count: usize) -> Result<Vec<u8>, AllocError>
     requires { 0 < count }
 {
-    let mut input = WsIn::new(alloc);
+    let mut input = WsIn::new(alloc)?;
     let mut text = Vec::new(alloc);
     for part in bytes.chunks(count) {
         input.feed(part)?;

@@ -44,6 +44,7 @@ impl Frames {
             used: 0,
         }
     }
+
     /// Adds bytes that came. Those that were used are given up. Where memory is wanting, nothing has changed.
     pub(crate) fn feed(&mut self, bytes: &[u8]) -> Result<(), AllocError>
         ensures { MatchResult result (λ _. self.new ≡ record self.old { waiting = self.old.waiting ++ bytes.now }) (λ _. self.new ≡ self.old) }
