@@ -5,3 +5,4 @@ pub mod FoundLemmas
 pub mod HeadLemmas
 pub mod CutLemmas
 pub mod SentLemmas
+pub mod FragmentLemmas

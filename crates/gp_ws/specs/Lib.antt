@@ -5,3 +5,4 @@ pub mod Frames
 pub mod Heads
 pub mod Cuts
 pub mod Sent
+pub mod Fragments

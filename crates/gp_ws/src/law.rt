@@ -1,5 +1,6 @@
 //! The laws of frames, the contract of a call.
 ghost use Rattle.gp_ws.specs.Cuts.{CutLaw};
+ghost use Rattle.gp_ws.specs.Fragments.{FragmentLaw};
 ghost use Rattle.gp_ws.specs.Sent.{SentLaw};
 
 /// Messages don't depend on how the bytes of a client are cut into reads: to read, to be fed more and to read again gives what is given
@@ -12,4 +13,9 @@ pub fn cut_law()
 /// another message, which are kept.
 pub fn sent_law()
     ensures { SentLaw }
+{}
+
+/// A message that a client sends in fragments is read as their bytes, joined.
+pub fn fragment_law()
+    ensures { FragmentLaw }
 {}
