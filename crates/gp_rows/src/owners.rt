@@ -2,8 +2,14 @@ ghost use Rattle.std.specs.Prelude.{◌+◌, ◌<◌, ◌≤◌};
 
 use crate::lines::event;
 use crate::shown::add_reply;
+use gp_plain::Event;
 use gp_replay::Registry;
 use std::alloc::{AllocError, Global};
+
+/// The want of memory, without the event that is handed back.
+fn want(refused: (Event, AllocError)) -> AllocError {
+    refused.1
+}
 
 /// Steps the event of a line, and adds the reply.
 fn step(
@@ -18,7 +24,7 @@ fn step(
 {
     match registry.step(who, event(alloc, line)?) {
         Ok(reply) => add_reply(alloc, text, reply),
-        Err((_, refused)) => Err(refused),
+        Err(refused) => Err(want(refused)),
     }
 }
 
