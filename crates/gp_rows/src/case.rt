@@ -92,7 +92,9 @@ fn push_replay(
 /// The status of a replay.
 fn status_of(alloc: Global, path: &str, files: &mut MemFiles, out: &mut MemOut) -> Status {
     let mut registry = Registry::new(alloc);
-    replay(alloc, path, &mut registry, files, out)
+    let status = replay(alloc, path, &mut registry, files, out);
+    drop(registry);
+    status
 }
 
 impl Case {
@@ -130,13 +132,10 @@ impl Case {
         let alloc = self.alloc;
         let mut files = files(alloc, self.script, self.reads)?;
         let mut out = MemOut::new(alloc, ROOM, Turns::from_vec(self.writes))?;
-        push_replay(
-            alloc,
-            text,
-            self.path.as_str(),
-            self.only.as_str(),
-            &mut files,
-            &mut out,
-        )
+        let (path, only) = (self.path.as_str(), self.only.as_str());
+        let played = push_replay(alloc, text, path, only, &mut files, &mut out);
+        drop(files);
+        drop(out);
+        played
     }
 }

@@ -22,7 +22,10 @@ pub fn item(alloc: Global, line: &str) -> Result<Item, AllocError>
 {
     match event(alloc, line)? {
         Event::Publish { item } => Ok(item),
-        _ => Err(AllocError),
+        other => {
+            drop(other);
+            Err(AllocError)
+        }
     }
 }
 
@@ -32,6 +35,9 @@ pub fn spec(alloc: Global, line: &str) -> Result<HoldSpec, AllocError>
 {
     match event(alloc, line)? {
         Event::Attach { spec } => Ok(spec),
-        _ => Err(AllocError),
+        other => {
+            drop(other);
+            Err(AllocError)
+        }
     }
 }

@@ -7,8 +7,9 @@ use gp_replay::Registry;
 use std::alloc::{AllocError, Global};
 
 /// The want of memory, without the event that is handed back.
-fn want(refused: (Event, AllocError)) -> AllocError {
-    refused.1
+fn want((event, refused): (Event, AllocError)) -> AllocError {
+    drop(event);
+    refused
 }
 
 /// Steps the event of a line, and adds the reply.
@@ -41,5 +42,7 @@ fn steps(alloc: Global, text: &mut String, registry: &mut Registry) -> Result<()
 /// What 0 and 1 are answered of a hold of 0, from an empty registry.
 pub fn owners(alloc: Global, text: &mut String) -> Result<(), AllocError> {
     let mut registry = Registry::new(alloc);
-    steps(alloc, text, &mut registry)
+    let stepped = steps(alloc, text, &mut registry);
+    drop(registry);
+    stepped
 }

@@ -6,6 +6,7 @@ use crate::lines::{event, item, spec};
 use crate::shown::add_reply;
 use gp_hub::{Hub, HubFault, HubPass};
 use gp_plain::Taken;
+use gp_replay::Registry;
 use std::alloc::{AllocError, Global};
 
 /// Adds the numbers of a pass.
@@ -27,7 +28,9 @@ fn word_of(fault: &HubFault) -> Option<&'static str> {
 
 /// The same of a fault that is let go.
 fn word(fault: HubFault) -> Option<&'static str> {
-    word_of(&fault)
+    let word = word_of(&fault);
+    drop(fault);
+    word
 }
 
 /// Adds why the hub served no event.
@@ -38,9 +41,23 @@ fn add_fault(text: &mut String, fault: HubFault) -> Result<(), AllocError> {
     }
 }
 
-/// Adds how many holds a closed hub's registry keeps.
-fn add_kept(text: &mut String, kept: u32) -> Result<(), AllocError> {
-    writeln!(text, "kept {kept}")
+/// How many holds a registry keeps that is let go.
+fn kept(registry: Registry) -> u32 {
+    let kept = registry.kept();
+    drop(registry);
+    kept
+}
+
+/// Adds how many holds the registry of a closed hub keeps.
+fn add_kept(text: &mut String, registry: Registry) -> Result<(), AllocError> {
+    writeln!(text, "kept {}", kept(registry))
+}
+
+/// Lets a hub and its pass go where memory was wanting.
+fn let_go(hub: Hub, pass: HubPass, refused: AllocError) -> Result<(), AllocError> {
+    drop(hub);
+    drop(pass);
+    Err(refused)
 }
 
 /// Calls the hub with the event of a line, and adds the reply.
@@ -100,7 +117,9 @@ fn publish(
 
 /// How many pieces were taken, and whether the hold has ended.
 fn sums(taken: Taken) -> (usize, bool) {
-    (taken.pieces.len(), taken.ended.is_some())
+    let sums = (taken.pieces.len(), taken.ended.is_some());
+    drop(taken);
+    sums
 }
 
 /// Adds what was taken.
@@ -182,8 +201,27 @@ fn own(alloc: Global, text: &mut String, hub: &Hub, pass: &mut HubPass) -> Resul
 /// What a pass is answered by the calls of its own.
 pub fn own_calls(alloc: Global, text: &mut String) -> Result<(), AllocError> {
     let (hub, mut pass) = Hub::new(alloc)?;
-    own(alloc, text, &hub, &mut pass)?;
-    add_kept(text, hub.close(pass).kept())
+    match own(alloc, text, &hub, &mut pass) {
+        Ok(()) => add_kept(text, hub.close(pass)),
+        Err(refused) => let_go(hub, pass, refused),
+    }
+}
+
+/// Adds the numbers of a pass and of one that was split off, and calls by both.
+fn call_both(
+    alloc: Global,
+    text: &mut String,
+    hub: &Hub,
+    first: &mut HubPass,
+    second: &mut HubPass,
+) -> Result<(), AllocError>
+    requires { (first.old.turn ≡ hub.now) × (second.old.turn ≡ hub.now) }
+    ensures first { (first.new.turn ≡ first.old.turn) × (first.new.parts ≡ first.old.parts) }
+    ensures second { (second.new.turn ≡ second.old.turn) × (second.new.parts ≡ second.old.parts) }
+{
+    add_pass(text, first)?;
+    add_pass(text, second)?;
+    calls(alloc, text, hub, first, second)
 }
 
 /// A pass is split off, called by, and joined again.
@@ -194,18 +232,33 @@ fn split(alloc: Global, text: &mut String, hub: &Hub, first: &mut HubPass) -> Re
     ensures parts { OnOk result (first.new.parts ≡ first.old.parts) }
 {
     let mut second = hub.split(first, 10)?;
-    add_pass(text, first)?;
-    add_pass(text, &second)?;
-    calls(alloc, text, hub, first, &mut second)?;
+    let called = call_both(alloc, text, hub, first, &mut second);
     hub.join(second, first);
-    Ok(())
+    called
+}
+
+/// Splits a pass, and adds its numbers before and after.
+fn split_all(
+    alloc: Global,
+    text: &mut String,
+    hub: &Hub,
+    first: &mut HubPass,
+) -> Result<(), AllocError>
+    requires turn { first.old.turn ≡ hub.now }
+    requires spare { (10 < first.old.spare) × (10 < first.old.parts) }
+    ensures turn { first.new.turn ≡ first.old.turn }
+    ensures parts { OnOk result (first.new.parts ≡ first.old.parts) }
+{
+    add_pass(text, first)?;
+    split(alloc, text, hub, first)?;
+    add_pass(text, first)
 }
 
 /// A hold is foreign to another pass; the passes are joined, and the registry is left.
 pub fn passes(alloc: Global, text: &mut String) -> Result<(), AllocError> {
     let (hub, mut first) = Hub::new(alloc)?;
-    add_pass(text, &first)?;
-    split(alloc, text, &hub, &mut first)?;
-    add_pass(text, &first)?;
-    add_kept(text, hub.close(first).kept())
+    match split_all(alloc, text, &hub, &mut first) {
+        Ok(()) => add_kept(text, hub.close(first)),
+        Err(refused) => let_go(hub, first, refused),
+    }
 }

@@ -11,18 +11,30 @@ use std::alloc::{AllocError, Global};
 /// Adds what a name of these bytes is, or why there is none.
 fn add_name(alloc: Global, text: &mut String, bytes: &[u8]) -> Result<(), AllocError> {
     match Name::new(alloc, bytes) {
-        Ok(name) => push_bytes(text, name.copy(alloc)?.bytes())?,
-        Err(fault) => write!(text, "{fault:?}")?,
+        Ok(name) => add_copied_name(alloc, text, name),
+        Err(fault) => writeln!(text, "{fault:?}"),
     }
+}
+
+fn add_copied_name(alloc: Global, text: &mut String, name: Name) -> Result<(), AllocError> {
+    let copy = name.copy(alloc);
+    drop(name);
+    push_bytes(text, copy?.bytes())?;
     text.push('\n')
 }
 
 /// Adds what an id of these bytes is, or why there is none.
 fn add_id(alloc: Global, text: &mut String, bytes: &[u8]) -> Result<(), AllocError> {
     match ItemId::from_vec(Vec::from_slice(alloc, bytes)?) {
-        Ok(id) => push_bytes(text, id.copy(alloc)?.bytes())?,
-        Err(fault) => write!(text, "{fault:?}")?,
+        Ok(id) => add_copied_id(alloc, text, id),
+        Err(fault) => writeln!(text, "{fault:?}"),
     }
+}
+
+fn add_copied_id(alloc: Global, text: &mut String, id: ItemId) -> Result<(), AllocError> {
+    let copy = id.copy(alloc);
+    drop(id);
+    push_bytes(text, copy?.bytes())?;
     text.push('\n')
 }
 
@@ -37,7 +49,10 @@ pub fn names(alloc: Global, text: &mut String) -> Result<(), AllocError> {
 
 /// A copy of the item that a line publishes.
 fn copied(alloc: Global, line: &str) -> Result<Item, AllocError> {
-    item(alloc, line)?.copy(alloc)
+    let item = item(alloc, line)?;
+    let copy = item.copy(alloc);
+    drop(item);
+    copy
 }
 
 /// Adds the line of a copy of the item that a line publishes.
@@ -63,7 +78,10 @@ fn message(alloc: Global, kind: &str) -> Result<Message, AllocError> {
 
 /// A copy of a message of a kind.
 fn copied_message(alloc: Global, kind: &str) -> Result<Message, AllocError> {
-    message(alloc, kind)?.copy(alloc)
+    let message = message(alloc, kind)?;
+    let copy = message.copy(alloc);
+    drop(message);
+    copy
 }
 
 /// Adds the line of a copy of a message of a kind.
@@ -137,10 +155,17 @@ fn add_channels(alloc: Global, text: &mut String, spec: &HoldSpec) -> Result<(),
 }
 
 /// The count of a hold of which nothing was taken. It adds the hold's channels where it is a plain one.
+fn tally_of(alloc: Global, text: &mut String, spec: &HoldSpec) -> Result<Tally, AllocError> {
+    add_channels(alloc, text, spec)?;
+    Tally::new(alloc, spec)
+}
+
+/// The same of the hold that a line attaches.
 fn tally(alloc: Global, text: &mut String, line: &str) -> Result<Tally, AllocError> {
     let spec = spec(alloc, line)?;
-    add_channels(alloc, text, &spec)?;
-    Tally::new(alloc, &spec)
+    let tally = tally_of(alloc, text, &spec);
+    drop(spec);
+    tally
 }
 
 fn count_opening(alloc: Global, tally: &mut Tally) -> Result<(), AllocError> {
@@ -175,6 +200,10 @@ fn report(
     Ok(tally.report(3, told))
 }
 
+fn add_report(alloc: Global, text: &mut String, report: &HoldReport) -> Result<(), AllocError> {
+    push_bytes(text, write_report(alloc, report)?.bytes())
+}
+
 /// Adds what is told of a hold by a running count.
 fn add_tally(
     alloc: Global,
@@ -183,8 +212,7 @@ fn add_tally(
     told: Option<EndCause>,
 ) -> Result<(), AllocError> {
     let tally = tally(alloc, text, line)?;
-    let report = report(alloc, tally, told)?;
-    push_bytes(text, write_report(alloc, &report)?.bytes())
+    add_report(alloc, text, &report(alloc, tally, told)?)
 }
 
 /// What is told of a reliable hold that overflowed, and of a plain one that was let go.

@@ -33,7 +33,9 @@ fn push_reply(alloc: Global, text: &mut String, reply: &Reply) -> Result<(), All
 
 /// The same of a reply that is let go.
 pub fn add_reply(alloc: Global, text: &mut String, reply: Reply) -> Result<(), AllocError> {
-    push_reply(alloc, text, &reply)
+    let pushed = push_reply(alloc, text, &reply);
+    drop(reply);
+    pushed
 }
 
 /// Adds the line of a piece.
@@ -43,7 +45,9 @@ fn push_piece(alloc: Global, text: &mut String, piece: &Piece) -> Result<(), All
 
 /// The same of a piece that is let go.
 pub fn add_piece(alloc: Global, text: &mut String, piece: Piece) -> Result<(), AllocError> {
-    push_piece(alloc, text, &piece)
+    let pushed = push_piece(alloc, text, &piece);
+    drop(piece);
+    pushed
 }
 
 /// Adds the line of an event, where it has one.
@@ -56,7 +60,9 @@ fn push_event(alloc: Global, text: &mut String, event: &Event) -> Result<(), All
 
 /// The same of an event that is let go.
 pub fn add_event(alloc: Global, text: &mut String, event: Event) -> Result<(), AllocError> {
-    push_event(alloc, text, &event)
+    let pushed = push_event(alloc, text, &event);
+    drop(event);
+    pushed
 }
 
 /// Adds one line, with the number of times where it came more than once.
