@@ -205,7 +205,7 @@ fn waiting(registry: &Registry) -> Result<u64, AllocError> {
     Ok(waiting)
 }
 
-/// How many holds a registry keeps that is let go, and how many pieces wait for them.
+/// How many holds a registry keeps, and how many pieces wait for them. The registry is dropped.
 fn left(registry: Registry) -> (u64, Result<u64, AllocError>) {
     let left = (u64::from(registry.kept()), waiting(&registry));
     drop(registry);

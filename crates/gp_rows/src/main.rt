@@ -1,7 +1,7 @@
 //! The rows that a replay is tested by: cases of scripts and of devices in memory, each run alone.
 //!
 //! Standard input has the cases, and the stored output what each of them must write, which was worked out by hand from
-//! the rules of docs/PROTOCOL.md. A line `# TITLE` begins a case; `case.rt` has its other lines. The words of `named`
+//! the rules of docs/PROTOCOL.md. A line `# TITLE` begins a case; `case.rt` has its other lines. The words of `push_named`
 //! stand for calls that no script makes. So a new row is two pieces of text,
 //! and there is nothing to prove of it. It stands on `gp_replay`, and on the devices in memory of `gp_outside`.
 #![tactic(auto)]

@@ -26,7 +26,7 @@ fn word_of(fault: &HubFault) -> Option<&'static str> {
     }
 }
 
-/// The same of a fault that is let go.
+/// The same, and the fault is dropped.
 fn word(fault: HubFault) -> Option<&'static str> {
     let word = word_of(&fault);
     drop(fault);
@@ -41,7 +41,7 @@ fn add_fault(text: &mut String, fault: HubFault) -> Result<(), AllocError> {
     }
 }
 
-/// How many holds a registry keeps that is let go.
+/// How many holds a registry keeps, which is dropped.
 fn kept(registry: Registry) -> u32 {
     let kept = registry.kept();
     drop(registry);
@@ -53,7 +53,7 @@ fn add_kept(text: &mut String, registry: Registry) -> Result<(), AllocError> {
     writeln!(text, "kept {}", kept(registry))
 }
 
-/// Lets a hub and its pass go where memory was wanting.
+/// Drops a hub and its pass where memory was wanting.
 fn let_go(hub: Hub, pass: HubPass, refused: AllocError) -> Result<(), AllocError> {
     drop(hub);
     drop(pass);

@@ -61,33 +61,23 @@ fn add_copy(alloc: Global, text: &mut String, line: &str) -> Result<(), AllocErr
     add_event(alloc, text, Event::Publish { item })
 }
 
-/// A message of a kind.
-fn message(alloc: Global, kind: &str) -> Result<Message, AllocError> {
-    let bytes = Body::new(alloc, kind.as_bytes())?;
-    Ok(match kind {
-        "a" => Message::Text(bytes),
-        "b" => Message::Binary(bytes),
-        "c" => Message::Ping(bytes),
-        "d" => Message::Pong(bytes),
-        _ => Message::Close {
-            code: Some(1001),
-            reason: bytes,
-        },
-    })
-}
-
-/// A copy of a message of a kind.
-fn copied_message(alloc: Global, kind: &str) -> Result<Message, AllocError> {
-    let message = message(alloc, kind)?;
+/// Adds the line of a copy of a message.
+fn add_message(alloc: Global, text: &mut String, message: Message) -> Result<(), AllocError> {
     let copy = message.copy(alloc);
     drop(message);
-    copy
+    add_piece(alloc, text, Piece::Message(copy?))
 }
 
-/// Adds the line of a copy of a message of a kind.
-fn add_message(alloc: Global, text: &mut String, kind: &str) -> Result<(), AllocError> {
-    let copy = copied_message(alloc, kind)?;
-    add_piece(alloc, text, Piece::Message(copy))
+fn add_messages(alloc: Global, text: &mut String) -> Result<(), AllocError> {
+    add_message(alloc, text, Message::Text(Body::new(alloc, b"a")?))?;
+    add_message(alloc, text, Message::Binary(Body::new(alloc, b"b")?))?;
+    add_message(alloc, text, Message::Ping(Body::new(alloc, b"c")?))?;
+    add_message(alloc, text, Message::Pong(Body::new(alloc, b"d")?))?;
+    let close = Message::Close {
+        code: Some(1001),
+        reason: Body::new(alloc, b"away")?,
+    };
+    add_message(alloc, text, close)
 }
 
 fn address(alloc: Global) -> Result<Address, AllocError> {
@@ -114,9 +104,7 @@ pub fn copies(alloc: Global, text: &mut String) -> Result<(), AllocError> {
     ] {
         add_copy(alloc, text, line)?;
     }
-    for kind in ["a", "b", "c", "d", "away"] {
-        add_message(alloc, text, kind)?;
-    }
+    add_messages(alloc, text)?;
     add_address(alloc, text)
 }
 
@@ -160,7 +148,7 @@ fn tally_of(alloc: Global, text: &mut String, spec: &HoldSpec) -> Result<Tally, 
     Tally::new(alloc, spec)
 }
 
-/// The same of the hold that a line attaches.
+/// The count of the hold that a line attaches, in the same way.
 fn tally(alloc: Global, text: &mut String, line: &str) -> Result<Tally, AllocError> {
     let spec = spec(alloc, line)?;
     let tally = tally_of(alloc, text, &spec);

@@ -31,7 +31,7 @@ fn push_reply(alloc: Global, text: &mut String, reply: &Reply) -> Result<(), All
     push_bytes(text, write_reply(alloc, reply)?.bytes())
 }
 
-/// The same of a reply that is let go.
+/// Adds the line of a reply, and drops the reply. The drop is a call, since one at the end of a block is proved anew in each function.
 pub fn add_reply(alloc: Global, text: &mut String, reply: Reply) -> Result<(), AllocError> {
     let pushed = push_reply(alloc, text, &reply);
     drop(reply);
@@ -43,7 +43,7 @@ fn push_piece(alloc: Global, text: &mut String, piece: &Piece) -> Result<(), All
     push_bytes(text, write_piece(alloc, piece)?.bytes())
 }
 
-/// The same of a piece that is let go.
+/// Adds the line of a piece, and drops the piece.
 pub fn add_piece(alloc: Global, text: &mut String, piece: Piece) -> Result<(), AllocError> {
     let pushed = push_piece(alloc, text, &piece);
     drop(piece);
@@ -58,7 +58,7 @@ fn push_event(alloc: Global, text: &mut String, event: &Event) -> Result<(), All
     text.push('\n')
 }
 
-/// The same of an event that is let go.
+/// Adds the line of an event, where it has one, and drops the event.
 pub fn add_event(alloc: Global, text: &mut String, event: Event) -> Result<(), AllocError> {
     let pushed = push_event(alloc, text, &event);
     drop(event);
