@@ -12,74 +12,53 @@ fn file(alloc: Global, content: &str, reads: &str) -> Result<MemFiles, AllocErro
 }
 
 /// Adds what a read gave: the content, or the answer's name.
-fn push_read(alloc: Global, text: &mut String, read: &FileRead) -> Result<(), AllocError> {
+fn push_read(text: &mut String, read: &FileRead) -> Result<(), AllocError> {
     match read {
-        FileRead::Took(body) => push_bytes(alloc, text, body.bytes()),
+        FileRead::Took(body) => push_bytes(text, body.bytes()),
         FileRead::TooLong => text.push_str("TooLong"),
         FileRead::Failed => text.push_str("Failed"),
         FileRead::NoMemory => text.push_str("NoMemory"),
     }
 }
 
-fn push_write<O: Out>(
-    alloc: Global,
-    text: &mut String,
-    out: &mut O,
-    bytes: &[u8],
-) -> Result<(), AllocError> {
+fn push_write<O: Out>(text: &mut String, out: &mut O, bytes: &[u8]) -> Result<(), AllocError> {
     if bytes.is_empty() {
         return Ok(());
     }
-    let written = out.write(bytes);
-    text.push_str(format!(in alloc; "{written:?} ")?.as_str())
+    write!(text, "{:?} ", out.write(bytes))
 }
 
-fn push_writes(
-    alloc: Global,
-    text: &mut String,
-    out: &mut MemOut,
-    calls: &[&str],
-) -> Result<(), AllocError> {
+fn push_writes(text: &mut String, out: &mut MemOut, calls: &[&str]) -> Result<(), AllocError> {
     for call in calls {
-        push_write(alloc, text, out, call.as_bytes())?;
+        push_write(text, out, call.as_bytes())?;
     }
-    push_bytes(alloc, text, out.written())
+    push_bytes(text, out.written())
 }
 
 /// `sink ROOM TURNS BYTES..`: what each write of the bytes does, and all that was written.
-pub fn sink(alloc: Global, words: &[&str]) -> Result<String, AllocError> {
-    let mut text = String::new(alloc);
+pub fn sink(alloc: Global, text: &mut String, words: &[&str]) -> Result<(), AllocError> {
     let [room, writes, calls @ ..] = words else {
-        return Ok(text);
+        return Ok(());
     };
     let mut out = MemOut::new(alloc, number(room), turns(alloc, writes)?)?;
-    push_writes(alloc, &mut text, &mut out, calls)?;
-    Ok(text)
+    push_writes(text, &mut out, calls)
 }
 
-fn push_reads(
-    alloc: Global,
-    text: &mut String,
-    files: &mut MemFiles,
-    paths: &[&str],
-) -> Result<(), AllocError> {
+fn push_reads(text: &mut String, files: &mut MemFiles, paths: &[&str]) -> Result<(), AllocError> {
     for path in paths {
-        let read = files.read(path);
-        push_read(alloc, text, &read)?;
+        push_read(text, &files.read(path))?;
         text.push(' ')?;
     }
     Ok(())
 }
 
 /// `file CONTENT TURNS PATH..`: what each read at a path gives of the file `script`.
-pub fn reads(alloc: Global, words: &[&str]) -> Result<String, AllocError> {
-    let mut text = String::new(alloc);
+pub fn reads(alloc: Global, text: &mut String, words: &[&str]) -> Result<(), AllocError> {
     let [content, reads, paths @ ..] = words else {
-        return Ok(text);
+        return Ok(());
     };
     let mut files = file(alloc, content, reads)?;
-    push_reads(alloc, &mut text, &mut files, paths)?;
-    Ok(text)
+    push_reads(text, &mut files, paths)
 }
 
 /// Writes a file twice to the sink, and says whether all of it was written.
@@ -102,26 +81,18 @@ fn made_world(
     Ok(MemWorld::new(alloc, file(alloc, content, "-")?, out, clock, kits))
 }
 
-fn push_copies(
-    alloc: Global,
-    text: &mut String,
-    world: &mut MemWorld,
-    paths: &[&str],
-) -> Result<(), AllocError> {
+fn push_copies(text: &mut String, world: &mut MemWorld, paths: &[&str]) -> Result<(), AllocError> {
     for path in paths {
-        let is_whole = copy_twice(world, path);
-        text.push_str(if is_whole { "true " } else { "false " })?;
+        write!(text, "{} ", copy_twice(world, path))?;
     }
-    push_bytes(alloc, text, world.out().written())
+    push_bytes(text, world.out().written())
 }
 
 /// `world CONTENT ROOM TURNS PATH..`: whether the file at each path was written twice, and all that was written.
-pub fn world(alloc: Global, words: &[&str]) -> Result<String, AllocError> {
-    let mut text = String::new(alloc);
+pub fn world(alloc: Global, text: &mut String, words: &[&str]) -> Result<(), AllocError> {
     let [content, room, writes, paths @ ..] = words else {
-        return Ok(text);
+        return Ok(());
     };
     let mut world = made_world(alloc, content, number(room), writes)?;
-    push_copies(alloc, &mut text, &mut world, paths)?;
-    Ok(text)
+    push_copies(text, &mut world, paths)
 }

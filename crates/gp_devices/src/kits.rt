@@ -25,31 +25,27 @@ fn times(alloc: Global, word: &str) -> Result<Times, AllocError> {
 }
 
 /// `clock TIMES COUNT`: what so many calls give.
-pub fn clock(alloc: Global, words: &[&str]) -> Result<String, AllocError> {
-    let mut text = String::new(alloc);
+pub fn clock(alloc: Global, text: &mut String, words: &[&str]) -> Result<(), AllocError> {
     let [word, count] = words else {
-        return Ok(text);
+        return Ok(());
     };
     let mut clock = MemClock::new(times(alloc, word)?);
     for _call in 0..number(count) {
-        let now = clock.now();
-        text.push_str(format!(in alloc; "{now} ")?.as_str())?;
+        write!(text, "{} ", clock.now())?;
     }
-    Ok(text)
+    Ok(())
 }
 
 /// `then COUNT TURN TAKES`: so many turns of the list, one after another.
-pub fn then(alloc: Global, words: &[&str]) -> Result<String, AllocError> {
-    let mut text = String::new(alloc);
+pub fn then(alloc: Global, text: &mut String, words: &[&str]) -> Result<(), AllocError> {
     let [count, last, takes] = words else {
-        return Ok(text);
+        return Ok(());
     };
     let mut turns = Turns::then(alloc, number(count), turn(last))?;
     for _take in 0..number(takes) {
-        let next = turns.take_first();
-        text.push_str(format!(in alloc; "{next:?} ")?.as_str())?;
+        write!(text, "{:?} ", turns.take_first())?;
     }
-    Ok(text)
+    Ok(())
 }
 
 /// A link without input.
@@ -101,6 +97,24 @@ fn kit(alloc: Global, idle: u64) -> Result<MemKit, AllocError> {
     Ok(MemKit::new(alloc, clients, publishers, dials, clocks, gate))
 }
 
+/// Calls an origin.
+fn push_connect<D: Dial>(alloc: Global, text: &mut String, dial: &mut D) -> Result<(), AllocError> {
+    let host = Body::new(alloc, b"a")?;
+    write!(text, "{:?} ", dial.connect(&Address { host, port: 80 }))
+}
+
+/// Calls an origin, and sends a letter to a client.
+fn push_service<L: Link, D: Dial, C: Clock>(
+    alloc: Global,
+    text: &mut String,
+    link: &mut L,
+    dial: &mut D,
+    clock: &mut C,
+) -> Result<(), AllocError> {
+    push_connect(alloc, text, dial)?;
+    write!(text, "{:?} {} ", link.write(b"x"), clock.now())
+}
+
 /// Serves one client: it calls an origin, and is sent a letter.
 fn serve<K: Kit>(
     alloc: Global,
@@ -110,26 +124,32 @@ fn serve<K: Kit>(
 ) -> Result<(), AllocError> {
     let mut dial = kit.dial();
     let mut clock = kit.clock();
-    let host = Body::new(alloc, b"a")?;
-    let connected = dial.connect(&Address { host, port: 80 });
-    let put = link.write(b"x");
-    let now = clock.now();
-    text.push_str(format!(in alloc; "{connected:?} {put:?} {now} ")?.as_str())?;
+    push_service(alloc, text, &mut link, &mut dial, &mut clock)?;
     kit.over(link, Some((dial, clock)))
+}
+
+/// Takes a publisher, and hands it back at once.
+fn take_publisher<K: Kit>(text: &mut String, kit: &mut K) -> Result<(), AllocError> {
+    match kit.publishers().accept() {
+        Accepted::Took(link) => kit.over(link, None),
+        Accepted::NotReady => text.push_str("NotReady "),
+        Accepted::Failed => text.push_str("Failed "),
+    }
+}
+
+/// Takes a client, and serves it at once.
+fn take_client<K: Kit>(alloc: Global, text: &mut String, kit: &mut K) -> Result<(), AllocError> {
+    match kit.clients().accept() {
+        Accepted::Took(link) => serve(alloc, text, kit, link),
+        Accepted::NotReady => text.push_str("NotReady "),
+        Accepted::Failed => text.push_str("Failed "),
+    }
 }
 
 /// One round of a worker that serves each client at once.
 fn round<K: Kit>(alloc: Global, text: &mut String, kit: &mut K) -> Result<(), AllocError> {
-    match kit.publishers().accept() {
-        Accepted::Took(link) => kit.over(link, None)?,
-        Accepted::NotReady => text.push_str("NotReady ")?,
-        Accepted::Failed => text.push_str("Failed ")?,
-    }
-    match kit.clients().accept() {
-        Accepted::Took(link) => serve(alloc, text, kit, link)?,
-        Accepted::NotReady => text.push_str("NotReady ")?,
-        Accepted::Failed => text.push_str("Failed ")?,
-    }
+    take_publisher(text, kit)?;
+    take_client(alloc, text, kit)?;
     kit.gate().before(1);
     kit.gate().after(1);
     kit.idle().rest();
@@ -137,13 +157,10 @@ fn round<K: Kit>(alloc: Global, text: &mut String, kit: &mut K) -> Result<(), Al
 }
 
 /// Adds what was sent to a client that was handed back, and whether its dialer had a talk.
-fn push_ended(alloc: Global, text: &mut String, ended: &Ended) -> Result<(), AllocError> {
-    push_bytes(alloc, text, ended.link.sent())?;
+fn push_ended(text: &mut String, ended: &Ended) -> Result<(), AllocError> {
+    push_bytes(text, ended.link.sent())?;
     match &ended.others {
-        Some((dial, _)) => {
-            let has_talk = dial.sent(0).is_some();
-            text.push_str(format!(in alloc; " talk {has_talk} ")?.as_str())
-        }
+        Some((dial, _)) => write!(text, " talk {} ", dial.sent(0).is_some()),
         None => text.push_str(" none "),
     }
 }
@@ -159,7 +176,7 @@ fn push_rounds(
     }
     for place in 0..3usize {
         match kit.ended(place) {
-            Some(ended) => push_ended(alloc, text, ended)?,
+            Some(ended) => push_ended(text, ended)?,
             None => text.push_str("none ")?,
         }
     }
@@ -168,14 +185,12 @@ fn push_rounds(
 
 /// `kit IDLE ROUNDS`: what so many rounds do with a kit of two clients, one dialer and one clock, and what the first
 /// three sessions handed back: what was sent to the client, and whether there was a talk.
-pub fn rounds(alloc: Global, words: &[&str]) -> Result<String, AllocError> {
-    let mut text = String::new(alloc);
+pub fn rounds(alloc: Global, text: &mut String, words: &[&str]) -> Result<(), AllocError> {
     let [idle, count] = words else {
-        return Ok(text);
+        return Ok(());
     };
     let mut kit = kit(alloc, idle.parse::<u64>().unwrap_or(0))?;
-    push_rounds(alloc, &mut text, &mut kit, number(count))?;
-    Ok(text)
+    push_rounds(alloc, text, &mut kit, number(count))
 }
 
 fn pass<G: Gate>(gate: &G, call: &str) {
@@ -188,30 +203,21 @@ fn pass<G: Gate>(gate: &G, call: &str) {
     }
 }
 
-fn push_calls(
-    alloc: Global,
-    text: &mut String,
-    gates: [&PairGate; 2],
-    calls: &[&str],
-) -> Result<(), AllocError> {
+fn push_calls(text: &mut String, gates: [&PairGate; 2], calls: &[&str]) -> Result<(), AllocError> {
     for (place, call) in calls.iter().enumerate() {
         pass(&FreeGate, call);
         pass(gates[place % 2], call);
-        let late = gates[0].late();
-        let also = gates[1].late();
-        text.push_str(format!(in alloc; "{late} {also} ")?.as_str())?;
+        write!(text, "{} {} ", gates[0].late(), gates[1].late())?;
     }
     Ok(())
 }
 
 /// `gate TURNS CALL..`: whether a gate was late after each call. The calls alternate between two handles.
-pub fn gate(alloc: Global, words: &[&str]) -> Result<String, AllocError> {
-    let mut text = String::new(alloc);
+pub fn gate(alloc: Global, text: &mut String, words: &[&str]) -> Result<(), AllocError> {
     let [count, calls @ ..] = words else {
-        return Ok(text);
+        return Ok(());
     };
     let gate = PairGate::new(alloc, count.parse::<u64>().unwrap_or(0))?;
     let other = gate.copy()?;
-    push_calls(alloc, &mut text, [&gate, &other], calls)?;
-    Ok(text)
+    push_calls(text, [&gate, &other], calls)
 }

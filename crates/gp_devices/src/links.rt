@@ -8,30 +8,22 @@ use std::alloc::{AllocError, Global};
 const SLICE: usize = 8;
 
 /// Adds what a read gave, and the slice behind it.
-fn push_read(alloc: Global, text: &mut String, got: Got, into: &[u8]) -> Result<(), AllocError> {
-    text.push_str(format!(in alloc; "{got:?} ")?.as_str())?;
-    push_bytes(alloc, text, into)?;
+fn push_read(text: &mut String, got: Got, into: &[u8]) -> Result<(), AllocError> {
+    write!(text, "{got:?} ")?;
+    push_bytes(text, into)?;
     text.push(' ')
 }
 
 /// Makes one call of a link: `rN`, a read into at most 8 bytes, or `wBYTES`, a write.
-fn call_link<L: Link>(
-    alloc: Global,
-    text: &mut String,
-    link: &mut L,
-    call: &str,
-) -> Result<(), AllocError> {
+fn call_link<L: Link>(text: &mut String, link: &mut L, call: &str) -> Result<(), AllocError> {
     if let Some(most) = call.strip_prefix("r") {
         let mut into = [b'.'; SLICE];
         let most = number(most).max(1).min(SLICE);
         let got = link.read(&mut into[..most]);
-        return push_read(alloc, text, got, into.as_slice());
+        return push_read(text, got, into.as_slice());
     }
     match call.strip_prefix("w") {
-        Some(bytes) if !bytes.is_empty() => {
-            let put = link.write(bytes.as_bytes());
-            text.push_str(format!(in alloc; "{put:?} ")?.as_str())
-        }
+        Some(bytes) if !bytes.is_empty() => write!(text, "{:?} ", link.write(bytes.as_bytes())),
         _ => Ok(()),
     }
 }
@@ -48,27 +40,30 @@ fn made_link(
     MemLink::new(alloc, body(alloc, input)?, room, reads, writes)
 }
 
-fn push_calls(
-    alloc: Global,
-    text: &mut String,
-    link: &mut MemLink,
-    calls: &[&str],
-) -> Result<(), AllocError> {
+fn push_calls(text: &mut String, link: &mut MemLink, calls: &[&str]) -> Result<(), AllocError> {
     for call in calls {
-        call_link(alloc, text, link, call)?;
+        call_link(text, link, call)?;
     }
-    push_bytes(alloc, text, link.sent())
+    push_bytes(text, link.sent())
 }
 
 /// `link INPUT ROOM READS WRITES CALL..`: what each call does, and all that was sent.
-pub fn link(alloc: Global, words: &[&str]) -> Result<String, AllocError> {
-    let mut text = String::new(alloc);
+pub fn link(alloc: Global, text: &mut String, words: &[&str]) -> Result<(), AllocError> {
     let [input, room, reads, writes, calls @ ..] = words else {
-        return Ok(text);
+        return Ok(());
     };
     let mut link = made_link(alloc, input, number(room), reads, writes)?;
-    push_calls(alloc, &mut text, &mut link, calls)?;
-    Ok(text)
+    push_calls(text, &mut link, calls)
+}
+
+fn push_connect<D: Dial>(
+    alloc: Global,
+    text: &mut String,
+    dial: &mut D,
+    host: &str,
+) -> Result<(), AllocError> {
+    let host = Body::new(alloc, host.as_bytes())?;
+    write!(text, "{:?} ", dial.connect(&Address { host, port: 80 }))
 }
 
 /// Makes one call of a dialer: `cHOST`, `rN`, `wBYTES`, or `h`, which hangs up.
@@ -79,21 +74,16 @@ fn call_dial<D: Dial>(
     call: &str,
 ) -> Result<(), AllocError> {
     if let Some(host) = call.strip_prefix("c") {
-        let host = Body::new(alloc, host.as_bytes())?;
-        let connected = dial.connect(&Address { host, port: 80 });
-        return text.push_str(format!(in alloc; "{connected:?} ")?.as_str());
+        return push_connect(alloc, text, dial, host);
     }
     if let Some(most) = call.strip_prefix("r") {
         let mut into = [b'.'; SLICE];
         let most = number(most).max(1).min(SLICE);
         let got = dial.read(&mut into[..most]);
-        return push_read(alloc, text, got, into.as_slice());
+        return push_read(text, got, into.as_slice());
     }
     match call.strip_prefix("w") {
-        Some(bytes) if !bytes.is_empty() => {
-            let put = dial.write(bytes.as_bytes());
-            text.push_str(format!(in alloc; "{put:?} ")?.as_str())
-        }
+        Some(bytes) if !bytes.is_empty() => write!(text, "{:?} ", dial.write(bytes.as_bytes())),
         _ => {
             dial.hang_up();
             Ok(())
@@ -141,7 +131,7 @@ fn push_talks(
     }
     for talk in 0..3usize {
         match dial.sent(talk) {
-            Some(sent) => push_bytes(alloc, text, sent)?,
+            Some(sent) => push_bytes(text, sent)?,
             None => text.push_str("none")?,
         }
         text.push(' ')?;
@@ -151,14 +141,12 @@ fn push_talks(
 
 /// `dial ANSWERS ROOM CONNECTS OTHERS CALL..`: what each call does, and what was sent in the first three talks, where
 /// they were.
-pub fn dial(alloc: Global, words: &[&str]) -> Result<String, AllocError> {
-    let mut text = String::new(alloc);
+pub fn dial(alloc: Global, text: &mut String, words: &[&str]) -> Result<(), AllocError> {
     let [origins, room, connects, others, calls @ ..] = words else {
-        return Ok(text);
+        return Ok(());
     };
     let mut dial = made_dial(alloc, origins, number(room), connects, others)?;
-    push_talks(alloc, &mut text, &mut dial, calls)?;
-    Ok(text)
+    push_talks(alloc, text, &mut dial, calls)
 }
 
 /// Puts a body between brackets.
@@ -182,18 +170,28 @@ fn outbox_link(alloc: Global, writes: &str) -> Result<MemLink, AllocError> {
 }
 
 fn push_flushes(
-    alloc: Global,
     text: &mut String,
     outbox: &mut Outbox,
     link: &mut MemLink,
     count: usize,
 ) -> Result<(), AllocError> {
     for _flush in 0..count {
-        let flushed = outbox.flush(link);
-        text.push_str(format!(in alloc; "{flushed:?} ")?.as_str())?;
+        write!(text, "{:?} ", outbox.flush(link))?;
     }
-    let waiting = outbox.waiting();
-    text.push_str(format!(in alloc; "{waiting} ")?.as_str())
+    write!(text, "{} ", outbox.waiting())
+}
+
+/// Adds what so many flushes of a short body, one of some length and a short one do.
+fn push_outbox(
+    alloc: Global,
+    text: &mut String,
+    link: &mut MemLink,
+    long: &str,
+    count: usize,
+) -> Result<(), AllocError> {
+    let mut outbox = Outbox::new(alloc);
+    fill(alloc, &mut outbox, long)?;
+    push_flushes(text, &mut outbox, link, count)
 }
 
 /// The bytes that are sent at once.
@@ -204,20 +202,19 @@ fn whole(alloc: Global, long: &str) -> Result<Vec<u8>, AllocError> {
     Ok(whole)
 }
 
+/// Adds what was sent, and whether that is all.
+fn push_sent(alloc: Global, text: &mut String, sent: &[u8], long: &str) -> Result<(), AllocError> {
+    push_bytes(text, sent)?;
+    write!(text, " {}", sent == whole(alloc, long)?.as_slice())
+}
+
 /// `outbox LENGTH TURNS COUNT`: what so many flushes of a short body, one of that length and a short one do; how many
 /// bytes wait behind them; what was sent; and whether that is all.
-pub fn outbox(alloc: Global, words: &[&str]) -> Result<String, AllocError> {
-    let mut text = String::new(alloc);
+pub fn outbox(alloc: Global, text: &mut String, words: &[&str]) -> Result<(), AllocError> {
     let [long, writes, count] = words else {
-        return Ok(text);
+        return Ok(());
     };
-    let whole = whole(alloc, long)?;
     let mut link = outbox_link(alloc, writes)?;
-    let mut outbox = Outbox::new(alloc);
-    fill(alloc, &mut outbox, long)?;
-    push_flushes(alloc, &mut text, &mut outbox, &mut link, number(count))?;
-    push_bytes(alloc, &mut text, link.sent())?;
-    let is_whole = link.sent() == whole.as_slice();
-    text.push_str(if is_whole { " true" } else { " false" })?;
-    Ok(text)
+    push_outbox(alloc, text, &mut link, long, number(count))?;
+    push_sent(alloc, text, link.sent(), long)
 }

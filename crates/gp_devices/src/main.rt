@@ -13,35 +13,49 @@ mod words;
 use std::alloc::{AllocError, Global};
 use std::io;
 
-/// What the calls of a row do, or none where there is no such kind.
-fn answer(alloc: Global, kind: &str, words: &[&str]) -> Result<Option<String>, AllocError> {
-    let text = match kind {
-        "sink" => files::sink(alloc, words)?,
-        "file" => files::reads(alloc, words)?,
-        "world" => files::world(alloc, words)?,
-        "link" => links::link(alloc, words)?,
-        "dial" => links::dial(alloc, words)?,
-        "outbox" => links::outbox(alloc, words)?,
-        "clock" => kits::clock(alloc, words)?,
-        "then" => kits::then(alloc, words)?,
-        "kit" => kits::rounds(alloc, words)?,
-        "gate" => kits::gate(alloc, words)?,
-        _ => return Ok(None),
-    };
-    Ok(Some(text))
+/// Adds what the calls of a row do. It says whether there is such a kind.
+fn push_answer(
+    alloc: Global,
+    text: &mut String,
+    kind: &str,
+    words: &[&str],
+) -> Result<bool, AllocError> {
+    match kind {
+        "sink" => files::sink(alloc, text, words)?,
+        "file" => files::reads(alloc, text, words)?,
+        "world" => files::world(alloc, text, words)?,
+        "link" => links::link(alloc, text, words)?,
+        "dial" => links::dial(alloc, text, words)?,
+        "outbox" => links::outbox(alloc, text, words)?,
+        "clock" => kits::clock(alloc, text, words)?,
+        "then" => kits::then(alloc, text, words)?,
+        "kit" => kits::rounds(alloc, text, words)?,
+        "gate" => kits::gate(alloc, text, words)?,
+        _ => return Ok(false),
+    }
+    Ok(true)
+}
+
+/// The line with the answer of a row, or an empty text where the line is no row.
+fn answer(alloc: Global, line: &str) -> Result<String, AllocError> {
+    let (kind, rest) = line.split_once(' ').unwrap_or((line, ""));
+    let words: Vec<&str> = rest.split_whitespace().collect(alloc)?;
+    let mut text = String::from_str(alloc, "= ")?;
+    if !push_answer(alloc, &mut text, kind, words.as_slice())? {
+        text.clear();
+    }
+    Ok(text)
 }
 
 fn main(rt: HostRuntime) -> io::Result<()> {
-    let alloc = rt.alloc();
-    for line in rt.lines(alloc) {
+    for line in rt.lines(rt.alloc()) {
         let line = line?;
         println!(rt; "{line}")?;
-        let (kind, rest) = line.split_once(' ').unwrap_or((line.as_str(), ""));
-        let words: Vec<&str> = rest.split_whitespace().collect(alloc)?;
-        match answer(alloc, kind, words.as_slice())? {
-            Some(text) => println!(rt; "= {}", text.as_str().trim_end())?,
-            None if line.is_empty() || line.starts_with("#") => {}
-            None => println!(rt; "not a kind of row")?,
+        let text = answer(rt.alloc(), line.as_str())?;
+        if !text.is_empty() {
+            println!(rt; "{}", text.as_str().trim_end())?;
+        } else if !line.is_empty() && !line.starts_with("#") {
+            println!(rt; "not a kind of row")?;
         }
     }
     Ok(())

@@ -49,13 +49,12 @@ pub fn body(alloc: Global, word: &str) -> Result<Body, AllocError> {
 }
 
 /// Adds bytes as text: each as one letter, `-` for none, and their number for many.
-pub fn push_bytes(alloc: Global, text: &mut String, bytes: &[u8]) -> Result<(), AllocError> {
+pub fn push_bytes(text: &mut String, bytes: &[u8]) -> Result<(), AllocError> {
     if bytes.is_empty() {
         return text.push('-');
     }
     if bytes.len() > LONG {
-        let count = bytes.len();
-        return text.push_str(format!(in alloc; "({count} bytes)")?.as_str());
+        return write!(text, "({} bytes)", bytes.len());
     }
     for byte in bytes {
         text.push(char::from(*byte))?;

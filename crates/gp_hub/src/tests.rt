@@ -1,8 +1,9 @@
-ghost use Rattle.std.specs.Prelude.{◌≡◌, ◌+◌};
+ghost use Rattle.std.specs.Prelude.{◌≡◌, ◌<◌};
 
 use crate::{Hub, HubFault, HubPass};
 use gp_plain::{Body, Event, HoldSpec, Item, List, Name, Reply, StreamPart};
-use std::alloc::Global;
+use gp_registry::Registry;
+use std::alloc::{AllocError, Global};
 use std::test::*;
 use std::thread;
 use std::thread::Threads;
@@ -22,6 +23,17 @@ struct Counts {
     took: u64,
 }
 
+/// The event of a call that found the turn taken.
+fn handed_back(fault: HubFault) -> Option<Event> {
+    match fault {
+        HubFault::Busy(event, _) => Some(event),
+        other => {
+            drop(other);
+            None
+        }
+    }
+}
+
 /// The reply to an event, or None where the turn was never free.
 fn call_in_time(hub: &Hub, pass: &mut HubPass, event: Event) -> Option<Reply>
     requires { pass.old.turn ≡ hub.now }
@@ -30,15 +42,45 @@ fn call_in_time(hub: &Hub, pass: &mut HubPass, event: Event) -> Option<Reply>
     let mut next = event;
     for _ in 0..TRIES {
         if !next.fits() {
-            return None;
+            break;
         }
         match hub.call(pass, next) {
             Ok(reply) => return Some(reply),
-            Err(HubFault::Busy(back, _)) => next = back,
-            Err(_) => return None,
+            Err(fault) => next = handed_back(fault)?,
         }
     }
+    drop(next);
     None
+}
+
+/// The number of a hold that was attached.
+fn attached(reply: Reply) -> Option<u64> {
+    let hold = match &reply {
+        Reply::Attached(hold) => Some(*hold),
+        _ => None,
+    };
+    drop(reply);
+    hold
+}
+
+/// How many pieces an item brought that was published.
+fn published(reply: Reply) -> Option<u64> {
+    let count = match &reply {
+        Reply::Published(count) => Some(u64::from(*count)),
+        _ => None,
+    };
+    drop(reply);
+    count
+}
+
+/// How many pieces were taken.
+fn taken(reply: Reply) -> Option<u64> {
+    let count = match &reply {
+        Reply::Taken(taken) => Some(taken.pieces.len() as u64),
+        _ => None,
+    };
+    drop(reply);
+    count
 }
 
 fn plain(alloc: Global) -> Option<HoldSpec> {
@@ -69,10 +111,8 @@ fn publish_all(alloc: Global, hub: &Hub, pass: &mut HubPass) -> Option<u64>
     let mut brought = 0u64;
     for _ in 0..ITEMS {
         let item = news(alloc)?;
-        match call_in_time(hub, pass, Event::Publish { item })? {
-            Reply::Published(count) => brought = brought.saturating_add(u64::from(count)),
-            _ => return None,
-        }
+        let reply = call_in_time(hub, pass, Event::Publish { item })?;
+        brought = brought.saturating_add(published(reply)?);
     }
     Some(brought)
 }
@@ -83,17 +123,13 @@ fn calls(alloc: Global, hub: &Hub, pass: &mut HubPass) -> Option<Counts>
     ensures { (pass.new.turn ≡ pass.old.turn) × (pass.new.parts ≡ pass.old.parts) }
 {
     let spec = plain(alloc)?;
-    let Some(Reply::Attached(hold)) = call_in_time(hub, pass, Event::Attach { spec }) else {
-        return None;
-    };
+    let hold = attached(call_in_time(hub, pass, Event::Attach { spec })?)?;
     let brought = publish_all(alloc, hub, pass)?;
-    let Some(Reply::Taken(taken)) = call_in_time(hub, pass, Event::Take { hold, now: 0 }) else {
-        return None;
-    };
+    let took = taken(call_in_time(hub, pass, Event::Take { hold, now: 0 })?)?;
     Some(Counts {
         holds: 1,
         brought,
-        took: taken.pieces.len() as u64,
+        took,
     })
 }
 
@@ -108,24 +144,45 @@ fn work(alloc: Global, hub: &Hub, mut pass: HubPass) -> Worked
     (pass, counts)
 }
 
-/// Both work at once, and one pass is joined into the other.
-fn work_both<R: Threads + Sync>(
-    rt: &R,
-    alloc: Global,
-    hub: &Hub,
-    one: HubPass,
-    other: HubPass,
-) -> (HubPass, Option<Counts>, Option<Counts>)
-    requires { (one.turn ≡ hub.now) × (other.turn ≡ hub.now) }
-    ensures { (result.0.turn ≡ one.turn) × (result.0.parts ≡ one.parts + other.parts) }
+/// Two threads work at once, one of them by a pass that is split off and joined again. There are no counts where memory
+/// is wanting.
+fn work_in_two<R: Threads + Sync>(rt: &R, alloc: Global, hub: &Hub, mut one: HubPass) -> Worked
+    requires turn { one.turn ≡ hub.now }
+    requires spare { (1 < one.spare) × (1 < one.parts) }
+    ensures { (result.0.turn ≡ one.turn) × (result.0.parts ≡ one.parts) }
 {
+    let Ok(other) = hub.split(&mut one, 1) else {
+        return (one, None);
+    };
     let ((mut one, first), (other, second)) = thread::join(
         rt,
         || work(alloc, hub, one),
         || work(alloc, hub, other),
     );
     hub.join(other, &mut one);
-    (one, first, second)
+    (one, plus(first, second))
+}
+
+/// Four threads work at once, in the same way.
+fn work_in_four<R: Threads + Sync>(rt: &R, alloc: Global, hub: &Hub, mut one: HubPass) -> Worked
+    requires turn { one.turn ≡ hub.now }
+    requires spare { (4 < one.spare) × (4 < one.parts) }
+    ensures { (result.0.turn ≡ one.turn) × (result.0.parts ≡ one.parts) }
+{
+    let Ok(other) = hub.split(&mut one, 2) else {
+        return (one, None);
+    };
+    let ((mut one, first), (other, second)) = thread::join(
+        rt,
+        ||
+            requires { (one.turn ≡ hub.now) × (1 < one.spare) × (1 < one.parts) }
+        { work_in_two(rt, alloc, hub, one) },
+        ||
+            requires { (other.turn ≡ hub.now) × (1 < other.spare) × (1 < other.parts) }
+        { work_in_two(rt, alloc, hub, other) },
+    );
+    hub.join(other, &mut one);
+    (one, plus(first, second))
 }
 
 /// The counts of two threads together.
@@ -139,30 +196,34 @@ fn plus(one: Option<Counts>, other: Option<Counts>) -> Option<Counts> {
     })
 }
 
-#[test]
-fn four_threads_make_one_history(rt: HostRuntime) -> Result<(), Fail> {
-    let alloc = rt.alloc();
-    let (hub, mut first) = Hub::new(alloc)?;
-    let second = hub.split(&mut first, 1)?;
-    let third = hub.split(&mut first, 1)?;
-    let fourth = hub.split(&mut first, 1)?;
-    let ((mut left, a, b), (right, c, d)) = thread::join(
-        &rt,
-        || work_both(&rt, alloc, &hub, first, second),
-        || work_both(&rt, alloc, &hub, third, fourth),
-    );
-    hub.join(right, &mut left);
-    let registry = hub.close(left);
-    let Some(sum) = plus(plus(a, b), plus(c, d)) else {
-        panic!(rt; "each call is served in time");
-    };
-    assert_eq!(rt; (sum.holds, u64::from(registry.kept())), (4, 4));
+/// How many pieces wait for the four holds.
+fn waiting(registry: &Registry) -> Result<u64, AllocError> {
     let mut waiting = 0u64;
     for hold in 0..4u64 {
         waiting = waiting.saturating_add(registry.pending(hold)?.len() as u64);
     }
+    Ok(waiting)
+}
+
+/// How many holds a registry keeps, and how many pieces wait for them. The registry is dropped.
+fn left(registry: Registry) -> (u64, Result<u64, AllocError>) {
+    let left = (u64::from(registry.kept()), waiting(&registry));
+    drop(registry);
+    left
+}
+
+#[test]
+fn four_threads_make_one_history(rt: HostRuntime) -> Result<(), Fail> {
+    let alloc = rt.alloc();
+    let (hub, pass) = Hub::new(alloc)?;
+    let (pass, sum) = work_in_four(&rt, alloc, &hub, pass);
+    let (kept, waiting) = left(hub.close(pass));
+    let Some(sum) = sum else {
+        panic!(rt; "each call is served in time");
+    };
+    assert_eq!(rt; (sum.holds, kept), (4, 4));
     assert_eq!(rt;
-        sum.took.saturating_add(waiting),
+        sum.took.saturating_add(waiting?),
         sum.brought.saturating_add(sum.holds)
     );
     Ok(())

@@ -41,17 +41,11 @@ fn counted(line: &str) -> Option<(usize, &str)> {
 }
 
 /// Adds a line with the number of a time in the place of `#`, and the number before in that of `@`.
-fn push_numbered(
-    alloc: Global,
-    text: &mut String,
-    line: &str,
-    number: usize,
-) -> Result<(), AllocError> {
-    let before = number.saturating_sub(1);
+fn push_numbered(text: &mut String, line: &str, number: usize) -> Result<(), AllocError> {
     for letter in line.chars() {
         match letter {
-            '#' => text.push_str(format!(in alloc; "{number}")?.as_str())?,
-            '@' => text.push_str(format!(in alloc; "{before}")?.as_str())?,
+            '#' => write!(text, "{number}")?,
+            '@' => write!(text, "{}", number.saturating_sub(1))?,
             other => text.push(other)?,
         }
     }
@@ -59,14 +53,9 @@ fn push_numbered(
 }
 
 /// Adds a line of a script for each number from 1 on.
-fn push_times(
-    alloc: Global,
-    text: &mut String,
-    line: &str,
-    count: usize,
-) -> Result<(), AllocError> {
+fn push_times(text: &mut String, line: &str, count: usize) -> Result<(), AllocError> {
     for turn in 0..count {
-        push_numbered(alloc, text, line, turn.saturating_add(1))?;
+        push_numbered(text, line, turn.saturating_add(1))?;
     }
     Ok(())
 }
@@ -80,10 +69,32 @@ fn push_long(text: &mut String, line: &str, count: usize) -> Result<(), AllocErr
     text.push('\n')
 }
 
+/// The file `script`, and what each read of it does in turn.
+fn files(alloc: Global, script: String, reads: Vec<Turn>) -> Result<MemFiles, AllocError> {
+    let path = Body::new(alloc, b"script")?;
+    let content = Body::from_vec(script.into_bytes());
+    Ok(MemFiles::new(alloc, path, content, Turns::from_vec(reads)))
+}
+
+/// Replays the script at a path, and adds the status and the lines that were written.
+fn push_replay(
+    alloc: Global,
+    text: &mut String,
+    path: &str,
+    only: &str,
+    files: &mut MemFiles,
+    out: &mut MemOut,
+) -> Result<(), AllocError> {
+    show_status(text, status_of(alloc, path, files, out))?;
+    show_lines(text, only, out.written())
+}
+
 /// The status of a replay.
 fn status_of(alloc: Global, path: &str, files: &mut MemFiles, out: &mut MemOut) -> Status {
     let mut registry = Registry::new(alloc);
-    replay(alloc, path, &mut registry, files, out)
+    let status = replay(alloc, path, &mut registry, files, out);
+    drop(registry);
+    status
 }
 
 impl Case {
@@ -105,7 +116,7 @@ impl Case {
         match (kind, counted(rest)) {
             ("|", _) => push_long(&mut self.script, rest, 0)?,
             ("-", _) => self.script.push_str(rest)?,
-            ("*", Some((count, line))) => push_times(self.alloc, &mut self.script, line, count)?,
+            ("*", Some((count, line))) => push_times(&mut self.script, line, count)?,
             ("+", Some((count, line))) => push_long(&mut self.script, line, count)?,
             ("path", _) => self.path = String::from_str(self.alloc, rest)?,
             ("only", _) => self.only = String::from_str(self.alloc, rest)?,
@@ -116,16 +127,15 @@ impl Case {
         Ok(true)
     }
 
-    /// The status that the case ends with, and the lines that were written.
-    pub fn play(self) -> Result<String, AllocError> {
+    /// Adds the status that the case ends with, and the lines that were written.
+    pub fn play(self, text: &mut String) -> Result<(), AllocError> {
         let alloc = self.alloc;
-        let path = Body::new(alloc, b"script")?;
-        let content = Body::from_vec(self.script.into_bytes());
-        let mut files = MemFiles::new(alloc, path, content, Turns::from_vec(self.reads));
+        let mut files = files(alloc, self.script, self.reads)?;
         let mut out = MemOut::new(alloc, ROOM, Turns::from_vec(self.writes))?;
-        let status = status_of(alloc, self.path.as_str(), &mut files, &mut out);
-        let mut text = show_status(alloc, status)?;
-        show_lines(alloc, &mut text, self.only.as_str(), out.written())?;
-        Ok(text)
+        let (path, only) = (self.path.as_str(), self.only.as_str());
+        let played = push_replay(alloc, text, path, only, &mut files, &mut out);
+        drop(files);
+        drop(out);
+        played
     }
 }

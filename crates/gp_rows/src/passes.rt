@@ -1,27 +1,63 @@
 //! What two passes of one hub are answered.
-ghost use Rattle.std.specs.Prelude.{◌≡◌, ◌+◌};
+ghost use Rattle.std.specs.Prelude.{◌≡◌, ◌+◌, ◌<◌, OnOk};
 ghost use Rattle.gp_hub.specs.Own.{Keeps};
 
-use crate::shown::push_bytes;
+use crate::lines::{event, item, spec};
+use crate::shown::add_reply;
 use gp_hub::{Hub, HubFault, HubPass};
-use gp_plain::Event;
-use gp_script::{LineFault, read_line, write_reply};
+use gp_plain::Taken;
+use gp_replay::Registry;
 use std::alloc::{AllocError, Global};
 
 /// Adds the numbers of a pass.
-fn add_pass(alloc: Global, text: &mut String, pass: &HubPass) -> Result<(), AllocError> {
+fn add_pass(text: &mut String, pass: &HubPass) -> Result<(), AllocError> {
     let number = pass.number();
     let spare = pass.spare();
     let parts = pass.parts();
-    text.push_str(format!(in alloc; "pass {number} {spare} {parts}\n")?.as_str())
+    writeln!(text, "pass {number} {spare} {parts}")
 }
 
-fn add_fault(text: &mut String, fault: HubFault) -> Result<(), AllocError> {
+/// The word for why the hub served no event, or none where memory is wanting.
+fn word_of(fault: &HubFault) -> Option<&'static str> {
     match fault {
-        HubFault::Busy(_, _) => text.push_str("busy\n"),
-        HubFault::Worn(_) => text.push_str("worn\n"),
-        HubFault::NoMemory(_) => Err(AllocError),
+        HubFault::Busy(_, _) => Some("busy\n"),
+        HubFault::Worn(_) => Some("worn\n"),
+        HubFault::NoMemory(_) => None,
     }
+}
+
+/// The same, and the fault is dropped.
+fn word(fault: HubFault) -> Option<&'static str> {
+    let word = word_of(&fault);
+    drop(fault);
+    word
+}
+
+/// Adds why the hub served no event.
+fn add_fault(text: &mut String, fault: HubFault) -> Result<(), AllocError> {
+    match word(fault) {
+        Some(word) => text.push_str(word),
+        None => Err(AllocError),
+    }
+}
+
+/// How many holds a registry keeps, which is dropped.
+fn kept(registry: Registry) -> u32 {
+    let kept = registry.kept();
+    drop(registry);
+    kept
+}
+
+/// Adds how many holds the registry of a closed hub keeps.
+fn add_kept(text: &mut String, registry: Registry) -> Result<(), AllocError> {
+    writeln!(text, "kept {}", kept(registry))
+}
+
+/// Drops a hub and its pass where memory was wanting.
+fn let_go(hub: Hub, pass: HubPass, refused: AllocError) -> Result<(), AllocError> {
+    drop(hub);
+    drop(pass);
+    Err(refused)
 }
 
 /// Calls the hub with the event of a line, and adds the reply.
@@ -35,13 +71,8 @@ fn call(
     requires { pass.old.turn ≡ hub.now }
     ensures { (pass.new.turn ≡ pass.old.turn) × (pass.new.parts ≡ pass.old.parts) }
 {
-    let event = match read_line(alloc, line.as_bytes()) {
-        Ok(event) => event,
-        Err(LineFault::Bad) => return text.push_str("bad line\n"),
-        Err(LineFault::NoMemory) => return Err(AllocError),
-    };
-    match hub.call(pass, event) {
-        Ok(reply) => push_bytes(text, write_reply(alloc, &reply)?.bytes()),
+    match hub.call(pass, event(alloc, line)?) {
+        Ok(reply) => add_reply(alloc, text, reply),
         Err(fault) => add_fault(text, fault),
     }
 }
@@ -77,21 +108,41 @@ fn publish(
     requires { pass.old.turn ≡ hub.now }
     ensures { (pass.new.turn ≡ pass.old.turn) × (pass.new.parts ≡ pass.old.parts) }
 {
-    let item = match read_line(alloc, line.as_bytes()) {
-        Ok(Event::Publish { item }) => item,
-        Err(LineFault::NoMemory) => return Err(AllocError),
-        _ => return text.push_str("no item\n"),
-    };
-    match hub.publish(pass, item) {
-        Ok(Some(count)) => text.push_str(format!(in alloc; "published {count}\n")?.as_str()),
+    match hub.publish(pass, item(alloc, line)?) {
+        Ok(Some(count)) => writeln!(text, "published {count}"),
         Ok(None) => text.push_str("repeat\n"),
+        Err(fault) => add_fault(text, fault),
+    }
+}
+
+/// How many pieces were taken, and whether the hold has ended.
+fn sums(taken: Taken) -> (usize, bool) {
+    let sums = (taken.pieces.len(), taken.ended.is_some());
+    drop(taken);
+    sums
+}
+
+/// Adds what was taken.
+fn add_taken(text: &mut String, taken: Taken) -> Result<(), AllocError> {
+    let (count, has_ended) = sums(taken);
+    writeln!(text, "took {count}")?;
+    text.push_str(if has_ended { "ended\n" } else { "" })
+}
+
+/// Lets a hold of the pass go.
+fn detach(text: &mut String, hub: &Hub, pass: &mut HubPass, hold: u64) -> Result<(), AllocError>
+    requires turn { pass.old.turn ≡ hub.now }
+    requires keeps { Keeps pass.old hold }
+    ensures { (pass.new.turn ≡ pass.old.turn) × (pass.new.parts ≡ pass.old.parts) }
+{
+    match hub.detach(pass, hold) {
+        Ok(()) => text.push_str("let go\n"),
         Err(fault) => add_fault(text, fault),
     }
 }
 
 /// Takes of a hold of the pass, and lets it go where it hasn't ended.
 fn take_and_detach(
-    alloc: Global,
     text: &mut String,
     hub: &Hub,
     pass: &mut HubPass,
@@ -101,22 +152,20 @@ fn take_and_detach(
     requires keeps { Keeps pass.old hold }
     ensures { (pass.new.turn ≡ pass.old.turn) × (pass.new.parts ≡ pass.old.parts) }
 {
-    let taken = match hub.take(pass, hold, 0) {
-        Ok(taken) => taken,
-        Err(fault) => return add_fault(text, fault),
-    };
-    let count = taken.pieces.len();
-    text.push_str(format!(in alloc; "took {count}\n")?.as_str())?;
-    if taken.ended.is_some() {
-        return text.push_str("ended\n");
-    }
-    match hub.detach(pass, hold) {
-        Ok(()) => text.push_str("let go\n"),
+    match hub.take(pass, hold, 0) {
+        Ok(taken) => {
+            let has_ended = taken.ended.is_some();
+            add_taken(text, taken)?;
+            if has_ended {
+                return Ok(());
+            }
+            detach(text, hub, pass, hold)
+        }
         Err(fault) => add_fault(text, fault),
     }
 }
 
-/// Attaches the hold of a line, takes of it, and lets it go.
+/// Attaches the hold of a line, takes of it, and lets it go where it hasn't ended.
 fn hold(
     alloc: Global,
     text: &mut String,
@@ -127,59 +176,89 @@ fn hold(
     requires { pass.old.turn ≡ hub.now }
     ensures { (pass.new.turn ≡ pass.old.turn) × (pass.new.parts ≡ pass.old.parts) }
 {
-    let spec = match read_line(alloc, line.as_bytes()) {
-        Ok(Event::Attach { spec }) => spec,
-        Err(LineFault::NoMemory) => return Err(AllocError),
-        _ => return text.push_str("no hold\n"),
-    };
-    match hub.attach(pass, spec) {
+    match hub.attach(pass, spec(alloc, line)?) {
         Ok(Some(hold)) => {
-            text.push_str(format!(in alloc; "has {hold}\n")?.as_str())?;
-            take_and_detach(alloc, text, hub, pass, hold)
+            writeln!(text, "has {hold}")?;
+            take_and_detach(text, hub, pass, hold)
         }
         Ok(None) => text.push_str("full\n"),
         Err(fault) => add_fault(text, fault),
     }
 }
 
+/// Publishes, and attaches holds.
+fn own(alloc: Global, text: &mut String, hub: &Hub, pass: &mut HubPass) -> Result<(), AllocError>
+    requires { pass.old.turn ≡ hub.now }
+    ensures { (pass.new.turn ≡ pass.old.turn) × (pass.new.parts ≡ pass.old.parts) }
+{
+    publish(alloc, text, hub, pass, "publish news b a X")?;
+    publish(alloc, text, hub, pass, "publish news b a X")?;
+    hold(alloc, text, hub, pass, "attach stream news a link hi")?;
+    publish(alloc, text, hub, pass, "close news c b")?;
+    hold(alloc, text, hub, pass, "attach stream news a link hi")
+}
+
 /// What a pass is answered by the calls of its own.
-pub fn own_calls(alloc: Global) -> Result<String, AllocError> {
-    let mut text = String::new(alloc);
+pub fn own_calls(alloc: Global, text: &mut String) -> Result<(), AllocError> {
     let (hub, mut pass) = Hub::new(alloc)?;
-    publish(alloc, &mut text, &hub, &mut pass, "publish news b a X")?;
-    publish(alloc, &mut text, &hub, &mut pass, "publish news b a X")?;
-    hold(
-        alloc,
-        &mut text,
-        &hub,
-        &mut pass,
-        "attach stream news a link hi",
-    )?;
-    publish(alloc, &mut text, &hub, &mut pass, "close news c b")?;
-    hold(
-        alloc,
-        &mut text,
-        &hub,
-        &mut pass,
-        "attach stream news a link hi",
-    )?;
-    let kept = hub.close(pass).kept();
-    text.push_str(format!(in alloc; "kept {kept}\n")?.as_str())?;
-    Ok(text)
+    match own(alloc, text, &hub, &mut pass) {
+        Ok(()) => add_kept(text, hub.close(pass)),
+        Err(refused) => let_go(hub, pass, refused),
+    }
+}
+
+/// Adds the numbers of a pass and of one that was split off, and calls by both.
+fn call_both(
+    alloc: Global,
+    text: &mut String,
+    hub: &Hub,
+    first: &mut HubPass,
+    second: &mut HubPass,
+) -> Result<(), AllocError>
+    requires { (first.old.turn ≡ hub.now) × (second.old.turn ≡ hub.now) }
+    ensures first { (first.new.turn ≡ first.old.turn) × (first.new.parts ≡ first.old.parts) }
+    ensures second { (second.new.turn ≡ second.old.turn) × (second.new.parts ≡ second.old.parts) }
+{
+    add_pass(text, first)?;
+    add_pass(text, second)?;
+    calls(alloc, text, hub, first, second)
+}
+
+/// A pass is split off, called by, and joined again.
+fn split(alloc: Global, text: &mut String, hub: &Hub, first: &mut HubPass) -> Result<(), AllocError>
+    requires turn { first.old.turn ≡ hub.now }
+    requires spare { (10 < first.old.spare) × (10 < first.old.parts) }
+    ensures turn { first.new.turn ≡ first.old.turn }
+    ensures parts { OnOk result (first.new.parts ≡ first.old.parts) }
+{
+    let mut second = hub.split(first, 10)?;
+    let called = call_both(alloc, text, hub, first, &mut second);
+    hub.join(second, first);
+    called
+}
+
+/// Splits a pass, and adds its numbers before and after.
+fn split_all(
+    alloc: Global,
+    text: &mut String,
+    hub: &Hub,
+    first: &mut HubPass,
+) -> Result<(), AllocError>
+    requires turn { first.old.turn ≡ hub.now }
+    requires spare { (10 < first.old.spare) × (10 < first.old.parts) }
+    ensures turn { first.new.turn ≡ first.old.turn }
+    ensures parts { OnOk result (first.new.parts ≡ first.old.parts) }
+{
+    add_pass(text, first)?;
+    split(alloc, text, hub, first)?;
+    add_pass(text, first)
 }
 
 /// A hold is foreign to another pass; the passes are joined, and the registry is left.
-pub fn passes(alloc: Global) -> Result<String, AllocError> {
-    let mut text = String::new(alloc);
+pub fn passes(alloc: Global, text: &mut String) -> Result<(), AllocError> {
     let (hub, mut first) = Hub::new(alloc)?;
-    add_pass(alloc, &mut text, &first)?;
-    let mut second = hub.split(&mut first, 10)?;
-    add_pass(alloc, &mut text, &first)?;
-    add_pass(alloc, &mut text, &second)?;
-    calls(alloc, &mut text, &hub, &mut first, &mut second)?;
-    hub.join(second, &mut first);
-    add_pass(alloc, &mut text, &first)?;
-    let kept = hub.close(first).kept();
-    text.push_str(format!(in alloc; "kept {kept}\n")?.as_str())?;
-    Ok(text)
+    match split_all(alloc, text, &hub, &mut first) {
+        Ok(()) => add_kept(text, hub.close(first)),
+        Err(refused) => let_go(hub, first, refused),
+    }
 }

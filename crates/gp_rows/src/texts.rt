@@ -1,6 +1,6 @@
-use crate::shown::push_bytes;
+use crate::shown::{add_event, add_piece, add_reply, push_bytes};
 use gp_plain::{Body, EndCause, Event, HoldKind, HoldReport, Piece, Reply};
-use gp_script::{write_end, write_hold, write_line, write_piece, write_reply, write_report};
+use gp_script::{write_end, write_hold, write_report};
 use std::alloc::{AllocError, Global};
 
 /// Adds a text that was written.
@@ -8,29 +8,17 @@ fn add(text: &mut String, written: Body) -> Result<(), AllocError> {
     push_bytes(text, written.bytes())
 }
 
-fn add_reply(alloc: Global, text: &mut String, reply: Reply) -> Result<(), AllocError> {
-    add(text, write_reply(alloc, &reply)?)
+/// Adds the replies that have no other value than a number.
+fn add_numbers(alloc: Global, text: &mut String) -> Result<(), AllocError> {
+    add_reply(alloc, text, Reply::Published(1))?;
+    add_reply(alloc, text, Reply::Paged)?;
+    add_reply(alloc, text, Reply::Done)?;
+    add_reply(alloc, text, Reply::Foreign(3))
 }
 
-/// Adds the line of an event, where it has one.
-fn add_line(alloc: Global, text: &mut String, event: Event) -> Result<(), AllocError> {
-    if let Some(line) = write_line(alloc, &event)? {
-        add(text, line)?;
-        text.push('\n')?;
-    }
-    Ok(())
-}
-
-fn add_replies(alloc: Global, text: &mut String) -> Result<(), AllocError> {
-    for reply in [
-        Reply::Published(1),
-        Reply::Paged,
-        Reply::Done,
-        Reply::Foreign(3),
-    ] {
-        add_reply(alloc, text, reply)?;
-    }
-    let causes = [
+/// Adds the replies to a call on a hold that has ended, by each cause.
+fn add_causes(alloc: Global, text: &mut String) -> Result<(), AllocError> {
+    for cause in [
         EndCause::Closed,
         EndCause::Detached,
         EndCause::Gap,
@@ -39,20 +27,28 @@ fn add_replies(alloc: Global, text: &mut String) -> Result<(), AllocError> {
         EndCause::Answered,
         EndCause::Retry,
         EndCause::TimedOut,
-    ];
-    for cause in causes {
+    ] {
         add_reply(alloc, text, Reply::Gone(cause))?;
     }
-    let kinds = [
+    Ok(())
+}
+
+/// Adds the replies to a call that is for another kind of hold.
+fn add_kinds(alloc: Global, text: &mut String) -> Result<(), AllocError> {
+    for kind in [
         HoldKind::Stream,
         HoldKind::Plain,
         HoldKind::Response,
         HoldKind::Socket,
-    ];
-    for kind in kinds {
+    ] {
         add_reply(alloc, text, Reply::OtherKind(kind))?;
     }
     Ok(())
+}
+
+fn add_opening(alloc: Global, text: &mut String) -> Result<(), AllocError> {
+    let opening = Piece::Opening(Body::new(alloc, b"hi")?);
+    add_piece(alloc, text, opening)
 }
 
 /// Adds the first and the last lines of a log.
@@ -61,11 +57,6 @@ fn add_log(alloc: Global, text: &mut String) -> Result<(), AllocError> {
     add(text, write_hold(alloc, 2, HoldKind::Socket)?)?;
     add(text, write_end(alloc, &hi, None, None)?)?;
     add(text, write_end(alloc, &hi, None, Some(EndCause::Overflow))?)
-}
-
-fn add_opening(alloc: Global, text: &mut String) -> Result<(), AllocError> {
-    let opening = Piece::Opening(Body::new(alloc, b"hi")?);
-    add(text, write_piece(alloc, &opening)?)
 }
 
 fn add_report(alloc: Global, text: &mut String) -> Result<(), AllocError> {
@@ -81,12 +72,12 @@ fn add_report(alloc: Global, text: &mut String) -> Result<(), AllocError> {
 }
 
 /// The texts of replies, pieces, ends and reports that no script of today leads to, and of one of each other.
-pub fn texts(alloc: Global) -> Result<String, AllocError> {
-    let mut text = String::new(alloc);
-    add_replies(alloc, &mut text)?;
-    add_opening(alloc, &mut text)?;
-    add_log(alloc, &mut text)?;
-    add_report(alloc, &mut text)?;
-    add_line(alloc, &mut text, Event::Take { hold: 7, now: 8 })?;
-    Ok(text)
+pub fn texts(alloc: Global, text: &mut String) -> Result<(), AllocError> {
+    add_numbers(alloc, text)?;
+    add_causes(alloc, text)?;
+    add_kinds(alloc, text)?;
+    add_opening(alloc, text)?;
+    add_log(alloc, text)?;
+    add_report(alloc, text)?;
+    add_event(alloc, text, Event::Take { hold: 7, now: 8 })
 }

@@ -43,49 +43,52 @@ fn split_words(alloc: Global, line: &str) -> Result<Vec<String>, AllocError> {
     Ok(words)
 }
 
-fn push(text: &mut String, line: String) -> Result<(), AllocError> {
-    text.push_str(line.as_str())?;
-    text.push('\n')
-}
-
-/// The status by its words, or `done`.
-fn status_line(alloc: Global, status: Status) -> Result<String, AllocError> {
+/// Adds the status by its words, or `done`, as a line.
+fn push_status(text: &mut String, status: Status) -> Result<(), AllocError> {
     let exit = status.exit();
     let words = status.words();
     match status {
-        Status::Done => format!(in alloc; "done"),
-        Status::Usage(number) => format!(in alloc; "{exit} {words} {number}"),
-        Status::BadLine(number) => format!(in alloc; "{exit} {words} {number}"),
-        _ => format!(in alloc; "{exit} {words}"),
+        Status::Done => text.push_str("done\n"),
+        Status::Usage(number) => writeln!(text, "{exit} {words} {number}"),
+        Status::BadLine(number) => writeln!(text, "{exit} {words} {number}"),
+        _ => writeln!(text, "{exit} {words}"),
     }
 }
 
-/// What was sent in each session of a worker.
-fn show_kit(alloc: Global, text: &mut String, kit: &MemKit) -> Result<(), AllocError> {
+/// Adds a line of a word and of bytes.
+fn push_line(alloc: Global, text: &mut String, word: &str, bytes: &[u8]) -> Result<(), AllocError> {
+    writeln!(text, "{word} {}", escaped(alloc, bytes)?)
+}
+
+/// Adds what was sent in each session of a worker.
+fn push_kit(alloc: Global, text: &mut String, kit: &MemKit) -> Result<(), AllocError> {
     for place in 0..SESSIONS {
-        let Some(ended) = kit.ended(place) else {
-            return Ok(());
-        };
-        let sent = escaped(alloc, ended.link.sent())?;
-        push(text, format!(in alloc; "sent {sent}")?)?;
+        match kit.ended(place) {
+            Some(ended) => push_line(alloc, text, "sent", ended.link.sent())?,
+            None => break,
+        }
     }
     Ok(())
 }
 
-/// What was written, and what was sent in the sessions of the kits that were handed back, in order.
-fn show(alloc: Global, text: &mut String, world: &mut MemWorld) -> Result<(), AllocError> {
-    for line in world.out().written().split(|byte| *byte == b'\n') {
+/// Adds the lines that were written.
+fn push_written(alloc: Global, text: &mut String, written: &[u8]) -> Result<(), AllocError> {
+    for line in written.split(|byte| *byte == b'\n') {
         if !line.is_empty() {
-            let line = escaped(alloc, line)?;
-            push(text, format!(in alloc; "wrote {line}")?)?;
+            push_line(alloc, text, "wrote", line)?;
         }
     }
+    Ok(())
+}
+
+/// Adds what was sent in the sessions of the kits that were handed back, in order.
+fn push_kits(alloc: Global, text: &mut String, world: &MemWorld) -> Result<(), AllocError> {
     for place in 0..WORKERS {
         let Some(kit) = world.ended(place) else {
-            return Ok(());
+            break;
         };
-        push(text, format!(in alloc; "kit")?)?;
-        show_kit(alloc, text, kit)?;
+        text.push_str("kit\n")?;
+        push_kit(alloc, text, kit)?;
     }
     Ok(())
 }
@@ -98,15 +101,22 @@ fn status_of<R: Threads + Wait + Sync>(
     world: &mut MemWorld,
 ) -> Status {
     let mut registry = Registry::new(alloc);
-    run(rt, alloc, words, &mut registry, world)
+    let status = run(rt, alloc, words, &mut registry, world);
+    drop(registry);
+    status
 }
 
-/// A status, what was written, and what was sent.
-fn shown(alloc: Global, status: Status, world: &mut MemWorld) -> Result<String, AllocError> {
-    let mut text = String::new(alloc);
-    push(&mut text, status_line(alloc, status)?)?;
-    show(alloc, &mut text, world)?;
-    Ok(text)
+/// Runs the words over a world, and adds the status, what was written, and what was sent.
+fn push_run<R: Threads + Wait + Sync>(
+    rt: &R,
+    alloc: Global,
+    text: &mut String,
+    words: &[String],
+    world: &mut MemWorld,
+) -> Result<(), AllocError> {
+    push_status(text, status_of(rt, alloc, words, world))?;
+    push_written(alloc, text, world.out().written())?;
+    push_kits(alloc, text, world)
 }
 
 impl Case {
@@ -149,11 +159,16 @@ impl Case {
         Ok(true)
     }
 
-    /// The status that the case ends with, what was written, and what was sent.
-    pub fn play<R: Threads + Wait + Sync>(self, rt: &R) -> Result<String, AllocError> {
+    /// Adds the status that the case ends with, what was written, and what was sent.
+    pub fn play<R: Threads + Wait + Sync>(
+        self,
+        rt: &R,
+        text: &mut String,
+    ) -> Result<(), AllocError> {
         let alloc = self.alloc;
         let mut world = world(alloc, self.file, self.writes, self.doors.as_slice())?;
-        let status = status_of(rt, alloc, self.words.as_slice(), &mut world);
-        shown(alloc, status, &mut world)
+        let played = push_run(rt, alloc, text, self.words.as_slice(), &mut world);
+        drop(world);
+        played
     }
 }

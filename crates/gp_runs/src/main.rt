@@ -9,35 +9,41 @@ mod case;
 mod world;
 
 use case::Case;
-use std::alloc::AllocGlobal;
+use std::alloc::{AllocError, AllocGlobal};
 use std::io;
 use std::sync::Wait;
 use std::thread::Threads;
 
-/// Writes what a case gives.
-fn finish<R: Threads + Wait + Sync + Print + AllocGlobal>(rt: &R, case: Case) -> io::Result<()> {
-    let text = case.play(rt)?;
-    print!(rt; "{text}")
+/// Adds what a case of these lines gives.
+fn push_case<R: Threads + Wait + Sync + AllocGlobal>(
+    rt: &R,
+    text: &mut String,
+    lines: &str,
+) -> Result<(), AllocError> {
+    let mut case = Case::new(rt.alloc());
+    for line in lines.lines() {
+        if !case.add(line)? {
+            writeln!(text, "not a line of a case: {line}")?;
+        }
+    }
+    case.play(rt, text)
+}
+
+/// The title of a case, and what it gives.
+fn played<R: Threads + Wait + Sync + AllocGlobal>(
+    rt: &R,
+    case: &str,
+) -> Result<String, AllocError> {
+    let (title, lines) = case.split_once('\n').unwrap_or((case, ""));
+    let mut text = format!(in rt.alloc(); "# {}\n", title.trim_start_matches("# "))?;
+    push_case(rt, &mut text, lines)?;
+    Ok(text)
 }
 
 fn main(rt: HostRuntime) -> io::Result<()> {
-    let mut case: Option<Case> = None;
-    for line in rt.lines(rt.alloc()) {
-        let line = line?;
-        if line.starts_with("# ") {
-            if let Some(whole) = case.take() {
-                finish(&rt, whole)?;
-            }
-            println!(rt; "{line}")?;
-            case = Some(Case::new(rt.alloc()));
-        } else if let Some(open) = &mut case {
-            if !open.add(line.as_str())? {
-                println!(rt; "not a line of a case: {line}")?;
-            }
-        }
+    let input = io::read_to_string(rt.alloc(), rt.reader())?;
+    for case in input.as_str().split("\n# ") {
+        print!(rt; "{}", played(&rt, case)?)?;
     }
-    match case {
-        Some(whole) => finish(&rt, whole),
-        None => Ok(()),
-    }
+    Ok(())
 }

@@ -1,0 +1,43 @@
+//! What good lines of a script say. A line that is none is an error, as where memory is wanting.
+ghost use Rattle.std.specs.Prelude.{◌≡◌, IfOk, true};
+ghost use Rattle.gp_plain.specs.Fit.{fits};
+
+use gp_plain::{Event, HoldSpec, Item};
+use gp_script::read_line;
+use std::alloc::{AllocError, Global};
+
+/// The event of a line.
+pub fn event(alloc: Global, line: &str) -> Result<Event, AllocError>
+    ensures { IfOk result (λ event. fits event ≡ true) }
+{
+    match read_line(alloc, line.as_bytes()) {
+        Ok(event) => Ok(event),
+        Err(_) => Err(AllocError),
+    }
+}
+
+/// The item that a line publishes.
+pub fn item(alloc: Global, line: &str) -> Result<Item, AllocError>
+    ensures { IfOk result (λ item. fits (Event.Publish item) ≡ true) }
+{
+    match event(alloc, line)? {
+        Event::Publish { item } => Ok(item),
+        other => {
+            drop(other);
+            Err(AllocError)
+        }
+    }
+}
+
+/// What the hold that a line attaches is for.
+pub fn spec(alloc: Global, line: &str) -> Result<HoldSpec, AllocError>
+    ensures { IfOk result (λ spec. fits (Event.Attach spec) ≡ true) }
+{
+    match event(alloc, line)? {
+        Event::Attach { spec } => Ok(spec),
+        other => {
+            drop(other);
+            Err(AllocError)
+        }
+    }
+}
