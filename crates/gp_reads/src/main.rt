@@ -17,7 +17,7 @@ mod json;
 mod routes;
 mod tokens;
 
-use gp_escapes::{escaped, unescaped};
+use gp_escapes::unescaped;
 use std::alloc::{AllocError, Global};
 use std::io;
 
@@ -52,122 +52,177 @@ impl<'a> Row<'a> {
     }
 }
 
-fn of_heads(alloc: Global, kind: &str, row: &Row<'_>) -> Result<Option<Vec<u8>>, AllocError> {
+fn of_heads(
+    alloc: Global,
+    text: &mut String,
+    kind: &str,
+    row: &Row<'_>,
+) -> Result<bool, AllocError> {
     let bytes = row.whole.as_slice();
-    let shown = match kind {
-        "request" => heads::request(alloc, bytes)?,
-        "request-by-bytes" => heads::answered_at(alloc, bytes)?,
-        "response" => heads::response(alloc, bytes)?,
-        "write-request" => heads::write_request_read(alloc, bytes)?,
-        "write-response" => heads::write_response_read(alloc, bytes)?,
-        "target" => heads::target(alloc, bytes)?,
-        _ => return Ok(None),
-    };
-    Ok(Some(shown))
+    match kind {
+        "request" => heads::request(alloc, text, bytes)?,
+        "request-by-bytes" => heads::answered_at(alloc, text, bytes)?,
+        "response" => heads::response(alloc, text, bytes)?,
+        "write-request" => heads::write_request_read(alloc, text, bytes)?,
+        "write-response" => heads::write_response_read(alloc, text, bytes)?,
+        "target" => heads::target(alloc, text, bytes)?,
+        _ => return Ok(false),
+    }
+    Ok(true)
 }
 
-fn of_bodies(alloc: Global, kind: &str, row: &Row<'_>) -> Result<Option<Vec<u8>>, AllocError> {
+fn of_bodies(
+    alloc: Global,
+    text: &mut String,
+    kind: &str,
+    row: &Row<'_>,
+) -> Result<bool, AllocError> {
     let bytes = row.behind_second.as_slice();
-    let shown = match kind {
-        "plan-request" => bodies::plan_of_request(alloc, row.first, row.behind_first.as_slice())?,
-        "plan-response" => bodies::plan_of_response(alloc, row.first, row.second, bytes)?,
-        "body" => bodies::body(alloc, row.first, row.second, bytes)?,
-        "pieces" => bodies::pieces(alloc, row.first, row.second, bytes)?,
-        "feed-all" => bodies::feed_all(alloc, row.first, row.second, bytes)?,
-        "chunk" => bodies::chunk(alloc, row.first)?,
-        _ => return Ok(None),
-    };
-    Ok(Some(shown))
+    match kind {
+        "plan-request" => bodies::plan_of_request(
+            alloc,
+            text,
+            row.first,
+            row.behind_first.as_slice(),
+        )?,
+        "plan-response" => bodies::plan_of_response(alloc, text, row.first, row.second, bytes)?,
+        "body" => bodies::body(alloc, text, row.first, row.second, bytes)?,
+        "pieces" => bodies::pieces(alloc, text, row.first, row.second, bytes)?,
+        "feed-all" => bodies::feed_all(alloc, text, row.first, row.second, bytes)?,
+        "chunk" => bodies::chunk(text, row.first)?,
+        _ => return Ok(false),
+    }
+    Ok(true)
 }
 
-fn of_answers(alloc: Global, kind: &str, row: &Row<'_>) -> Result<Option<Vec<u8>>, AllocError> {
-    let shown = match kind {
-        "answer" => { answers::answer(alloc, row.first, row.second, row.behind_second.as_slice())? }
-        "passed" => {
-            let (method, fields) = cut(row.rest);
-            let fields = unescaped(alloc, fields)?;
-            answers::passed(alloc, row.first, row.second, method, fields.as_slice())?
-        }
-        "framed" => answers::framed(alloc, row.first, row.second)?,
-        "refusal" => answers::refusal(alloc, row.first, row.second)?,
-        "published" => answers::published(alloc)?,
-        "routes" => routes::picked(alloc, row.first, row.second, row.behind_second.as_slice())?,
-        _ => return Ok(None),
-    };
-    Ok(Some(shown))
+/// `passed CODE SENT METHOD FIELDS`
+fn push_passed(alloc: Global, text: &mut String, row: &Row<'_>) -> Result<(), AllocError> {
+    let (method, fields) = cut(row.rest);
+    let fields = unescaped(alloc, fields)?;
+    answers::passed(
+        alloc,
+        text,
+        row.first,
+        row.second,
+        method,
+        fields.as_slice(),
+    )
 }
 
-fn of_grip(alloc: Global, kind: &str, row: &Row<'_>) -> Result<Option<Vec<u8>>, AllocError> {
+fn of_answers(
+    alloc: Global,
+    text: &mut String,
+    kind: &str,
+    row: &Row<'_>,
+) -> Result<bool, AllocError> {
+    let bytes = row.behind_second.as_slice();
+    match kind {
+        "answer" => answers::answer(alloc, text, row.first, row.second, bytes)?,
+        "passed" => push_passed(alloc, text, row)?,
+        "framed" => answers::framed(text, row.first, row.second)?,
+        "refusal" => answers::refusal(text, row.first, row.second)?,
+        "published" => answers::published(text)?,
+        "routes" => routes::picked(alloc, text, row.first, row.second, bytes)?,
+        _ => return Ok(false),
+    }
+    Ok(true)
+}
+
+/// `grip-under FIELDS BODY`
+fn push_grip_under(alloc: Global, text: &mut String, row: &Row<'_>) -> Result<(), AllocError> {
+    let fields = unescaped(alloc, row.first)?;
+    grip::body(alloc, text, fields.as_slice(), row.behind_first.as_slice())
+}
+
+/// `held NOW FIELDS BODY`
+fn push_held(alloc: Global, text: &mut String, row: &Row<'_>) -> Result<(), AllocError> {
+    let fields = unescaped(alloc, row.second)?;
+    let body = row.behind_second.as_slice();
+    holds::held(alloc, text, row.first, fields.as_slice(), body)
+}
+
+fn of_grip(
+    alloc: Global,
+    text: &mut String,
+    kind: &str,
+    row: &Row<'_>,
+) -> Result<bool, AllocError> {
     let bytes = row.whole.as_slice();
-    let shown = match kind {
-        "headers" => grip::headers(alloc, bytes)?,
-        "link" => grip::link(alloc, bytes)?,
-        "last" => grip::last(alloc, row.first, row.second)?,
-        "grip" => grip::body(alloc, &[], bytes)?,
-        "grip-under" => {
-            let fields = unescaped(alloc, row.first)?;
-            grip::body(alloc, fields.as_slice(), row.behind_first.as_slice())?
-        }
-        "held" => {
-            let fields = unescaped(alloc, row.second)?;
-            holds::held(
-                alloc,
-                row.first,
-                fields.as_slice(),
-                row.behind_second.as_slice(),
-            )?
-        }
-        "instruct-type" => grip::is_instruct_type(alloc, bytes)?,
-        _ => return Ok(None),
-    };
-    Ok(Some(shown))
+    match kind {
+        "headers" => grip::headers(alloc, text, bytes)?,
+        "link" => grip::link(alloc, text, bytes)?,
+        "last" => grip::last(alloc, text, row.first, row.second)?,
+        "grip" => grip::body(alloc, text, &[], bytes)?,
+        "grip-under" => push_grip_under(alloc, text, row)?,
+        "held" => push_held(alloc, text, row)?,
+        "instruct-type" => grip::is_instruct_type(alloc, text, bytes)?,
+        _ => return Ok(false),
+    }
+    Ok(true)
 }
 
-fn of_others(alloc: Global, kind: &str, row: &Row<'_>) -> Result<Option<Vec<u8>>, AllocError> {
-    let shown = match kind {
-        "part" => json::part(alloc, row.whole.as_slice())?,
-        "items" => items::items(alloc, row.whole.as_slice())?,
-        "hmac" => {
-            let key = unescaped(alloc, row.first)?;
-            tokens::mac(alloc, key.as_slice(), row.behind_first.as_slice())?
-        }
-        "accept-key" => handshakes::accepted(alloc, row.whole.as_slice())?,
-        "handshake" => handshakes::shaken(alloc, row.whole.as_slice())?,
-        "token" => tokens::written(alloc, row.first, row.second, row.rest)?,
-        "check" => tokens::checked(alloc, row.first, row.second, row.rest)?,
-        _ => return Ok(None),
-    };
-    Ok(Some(shown))
+/// `hmac KEY TEXT`
+fn push_mac(alloc: Global, text: &mut String, row: &Row<'_>) -> Result<(), AllocError> {
+    let key = unescaped(alloc, row.first)?;
+    tokens::mac(text, key.as_slice(), row.behind_first.as_slice())
 }
 
-/// What the reader of a kind answers, or none where there is no such kind.
-fn answer(alloc: Global, kind: &str, rest: &str) -> Result<Option<Vec<u8>>, AllocError> {
+fn of_others(
+    alloc: Global,
+    text: &mut String,
+    kind: &str,
+    row: &Row<'_>,
+) -> Result<bool, AllocError> {
+    let bytes = row.whole.as_slice();
+    match kind {
+        "part" => json::part(alloc, text, bytes)?,
+        "items" => items::items(alloc, text, bytes)?,
+        "hmac" => push_mac(alloc, text, row)?,
+        "accept-key" => handshakes::accepted(alloc, text, bytes)?,
+        "handshake" => handshakes::shaken(alloc, text, bytes)?,
+        "token" => tokens::written(alloc, text, row.first, row.second, row.rest)?,
+        "check" => tokens::checked(alloc, text, row.first, row.second, row.rest)?,
+        _ => return Ok(false),
+    }
+    Ok(true)
+}
+
+/// Adds what the reader of a kind answers. It says whether there is such a kind.
+fn push_answer(
+    alloc: Global,
+    text: &mut String,
+    kind: &str,
+    row: &Row<'_>,
+) -> Result<bool, AllocError> {
+    Ok(
+        of_heads(alloc, text, kind, row)?
+            || of_bodies(alloc, text, kind, row)?
+            || of_answers(alloc, text, kind, row)?
+            || of_grip(alloc, text, kind, row)?
+            || of_others(alloc, text, kind, row)?,
+    )
+}
+
+/// The line with the answer of a row, or an empty text where the line is no row.
+fn answer(alloc: Global, line: &str) -> Result<String, AllocError> {
+    let (kind, rest) = cut(line);
     let row = Row::read(alloc, rest)?;
-    if let Some(shown) = of_heads(alloc, kind, &row)? {
-        return Ok(Some(shown));
+    let mut text = String::from_str(alloc, "= ")?;
+    if !push_answer(alloc, &mut text, kind, &row)? {
+        text.clear();
     }
-    if let Some(shown) = of_bodies(alloc, kind, &row)? {
-        return Ok(Some(shown));
-    }
-    if let Some(shown) = of_answers(alloc, kind, &row)? {
-        return Ok(Some(shown));
-    }
-    if let Some(shown) = of_grip(alloc, kind, &row)? {
-        return Ok(Some(shown));
-    }
-    of_others(alloc, kind, &row)
+    Ok(text)
 }
 
 fn main(rt: HostRuntime) -> io::Result<()> {
-    let alloc = rt.alloc();
-    for line in rt.lines(alloc) {
+    for line in rt.lines(rt.alloc()) {
         let line = line?;
         println!(rt; "{line}")?;
-        let (kind, rest) = cut(line.as_str());
-        match answer(alloc, kind, rest)? {
-            Some(shown) => println!(rt; "= {}", escaped(alloc, shown.as_slice())?)?,
-            None if line.is_empty() || line.starts_with("#") => {}
-            None => println!(rt; "not a kind of row")?,
+        let text = answer(rt.alloc(), line.as_str())?;
+        if !text.is_empty() {
+            println!(rt; "{text}")?;
+        } else if !line.is_empty() && !line.starts_with("#") {
+            println!(rt; "not a kind of row")?;
         }
     }
     Ok(())
