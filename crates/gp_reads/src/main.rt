@@ -26,9 +26,11 @@ fn cut(line: &str) -> (&str, &str) {
     line.split_once(' ').unwrap_or((line, ""))
 }
 
-/// The arguments of a row: its words, and its text from each of them on.
+/// A row: its kind, its words, and its text from each of them on.
 #[derive(Drop)]
 struct Row<'a> {
+    alloc: Global,
+    kind: &'a str,
     first: &'a str,
     second: &'a str,
     rest: &'a str,
@@ -38,10 +40,13 @@ struct Row<'a> {
 }
 
 impl<'a> Row<'a> {
-    fn read(alloc: Global, text: &'a str) -> Result<Row<'a>, AllocError> {
+    fn read(alloc: Global, line: &'a str) -> Result<Row<'a>, AllocError> {
+        let (kind, text) = cut(line);
         let (first, more) = cut(text);
         let (second, rest) = cut(more);
         Ok(Row {
+            alloc,
+            kind,
             first,
             second,
             rest,
@@ -52,43 +57,33 @@ impl<'a> Row<'a> {
     }
 }
 
-fn of_heads(
-    alloc: Global,
-    text: &mut String,
-    kind: &str,
-    row: &Row<'_>,
-) -> Result<bool, AllocError> {
+fn of_heads(text: &mut String, row: &Row<'_>) -> Result<bool, AllocError> {
     let bytes = row.whole.as_slice();
-    match kind {
-        "request" => heads::request(alloc, text, bytes)?,
-        "request-by-bytes" => heads::answered_at(alloc, text, bytes)?,
-        "response" => heads::response(alloc, text, bytes)?,
-        "write-request" => heads::write_request_read(alloc, text, bytes)?,
-        "write-response" => heads::write_response_read(alloc, text, bytes)?,
-        "target" => heads::target(alloc, text, bytes)?,
+    match row.kind {
+        "request" => heads::request(row.alloc, text, bytes)?,
+        "request-by-bytes" => heads::answered_at(row.alloc, text, bytes)?,
+        "response" => heads::response(row.alloc, text, bytes)?,
+        "write-request" => heads::write_request_read(row.alloc, text, bytes)?,
+        "write-response" => heads::write_response_read(row.alloc, text, bytes)?,
+        "target" => heads::target(row.alloc, text, bytes)?,
         _ => return Ok(false),
     }
     Ok(true)
 }
 
-fn of_bodies(
-    alloc: Global,
-    text: &mut String,
-    kind: &str,
-    row: &Row<'_>,
-) -> Result<bool, AllocError> {
+fn of_bodies(text: &mut String, row: &Row<'_>) -> Result<bool, AllocError> {
     let bytes = row.behind_second.as_slice();
-    match kind {
+    match row.kind {
         "plan-request" => bodies::plan_of_request(
-            alloc,
+            row.alloc,
             text,
             row.first,
             row.behind_first.as_slice(),
         )?,
-        "plan-response" => bodies::plan_of_response(alloc, text, row.first, row.second, bytes)?,
-        "body" => bodies::body(alloc, text, row.first, row.second, bytes)?,
-        "pieces" => bodies::pieces(alloc, text, row.first, row.second, bytes)?,
-        "feed-all" => bodies::feed_all(alloc, text, row.first, row.second, bytes)?,
+        "plan-response" => bodies::plan_of_response(row.alloc, text, row.first, row.second, bytes)?,
+        "body" => bodies::body(row.alloc, text, row.first, row.second, bytes)?,
+        "pieces" => bodies::pieces(row.alloc, text, row.first, row.second, bytes)?,
+        "feed-all" => bodies::feed_all(row.alloc, text, row.first, row.second, bytes)?,
         "chunk" => bodies::chunk(text, row.first)?,
         _ => return Ok(false),
     }
@@ -96,11 +91,11 @@ fn of_bodies(
 }
 
 /// `passed CODE SENT METHOD FIELDS`
-fn push_passed(alloc: Global, text: &mut String, row: &Row<'_>) -> Result<(), AllocError> {
+fn push_passed(text: &mut String, row: &Row<'_>) -> Result<(), AllocError> {
     let (method, fields) = cut(row.rest);
-    let fields = unescaped(alloc, fields)?;
+    let fields = unescaped(row.alloc, fields)?;
     answers::passed(
-        alloc,
+        row.alloc,
         text,
         row.first,
         row.second,
@@ -109,106 +104,90 @@ fn push_passed(alloc: Global, text: &mut String, row: &Row<'_>) -> Result<(), Al
     )
 }
 
-fn of_answers(
-    alloc: Global,
-    text: &mut String,
-    kind: &str,
-    row: &Row<'_>,
-) -> Result<bool, AllocError> {
+fn of_answers(text: &mut String, row: &Row<'_>) -> Result<bool, AllocError> {
     let bytes = row.behind_second.as_slice();
-    match kind {
-        "answer" => answers::answer(alloc, text, row.first, row.second, bytes)?,
-        "passed" => push_passed(alloc, text, row)?,
+    match row.kind {
+        "answer" => answers::answer(row.alloc, text, row.first, row.second, bytes)?,
+        "passed" => push_passed(text, row)?,
         "framed" => answers::framed(text, row.first, row.second)?,
         "refusal" => answers::refusal(text, row.first, row.second)?,
         "published" => answers::published(text)?,
-        "routes" => routes::picked(alloc, text, row.first, row.second, bytes)?,
+        "routes" => routes::picked(row.alloc, text, row.first, row.second, bytes)?,
         _ => return Ok(false),
     }
     Ok(true)
 }
 
 /// `grip-under FIELDS BODY`
-fn push_grip_under(alloc: Global, text: &mut String, row: &Row<'_>) -> Result<(), AllocError> {
-    let fields = unescaped(alloc, row.first)?;
-    grip::body(alloc, text, fields.as_slice(), row.behind_first.as_slice())
+fn push_grip_under(text: &mut String, row: &Row<'_>) -> Result<(), AllocError> {
+    let fields = unescaped(row.alloc, row.first)?;
+    grip::body(
+        row.alloc,
+        text,
+        fields.as_slice(),
+        row.behind_first.as_slice(),
+    )
 }
 
 /// `held NOW FIELDS BODY`
-fn push_held(alloc: Global, text: &mut String, row: &Row<'_>) -> Result<(), AllocError> {
-    let fields = unescaped(alloc, row.second)?;
+fn push_held(text: &mut String, row: &Row<'_>) -> Result<(), AllocError> {
+    let fields = unescaped(row.alloc, row.second)?;
     let body = row.behind_second.as_slice();
-    holds::held(alloc, text, row.first, fields.as_slice(), body)
+    holds::held(row.alloc, text, row.first, fields.as_slice(), body)
 }
 
-fn of_grip(
-    alloc: Global,
-    text: &mut String,
-    kind: &str,
-    row: &Row<'_>,
-) -> Result<bool, AllocError> {
+fn of_grip(text: &mut String, row: &Row<'_>) -> Result<bool, AllocError> {
     let bytes = row.whole.as_slice();
-    match kind {
-        "headers" => grip::headers(alloc, text, bytes)?,
-        "link" => grip::link(alloc, text, bytes)?,
-        "last" => grip::last(alloc, text, row.first, row.second)?,
-        "grip" => grip::body(alloc, text, &[], bytes)?,
-        "grip-under" => push_grip_under(alloc, text, row)?,
-        "held" => push_held(alloc, text, row)?,
-        "instruct-type" => grip::is_instruct_type(alloc, text, bytes)?,
+    match row.kind {
+        "headers" => grip::headers(row.alloc, text, bytes)?,
+        "link" => grip::link(row.alloc, text, bytes)?,
+        "last" => grip::last(row.alloc, text, row.first, row.second)?,
+        "grip" => grip::body(row.alloc, text, &[], bytes)?,
+        "grip-under" => push_grip_under(text, row)?,
+        "held" => push_held(text, row)?,
+        "instruct-type" => grip::is_instruct_type(row.alloc, text, bytes)?,
         _ => return Ok(false),
     }
     Ok(true)
 }
 
 /// `hmac KEY TEXT`
-fn push_mac(alloc: Global, text: &mut String, row: &Row<'_>) -> Result<(), AllocError> {
-    let key = unescaped(alloc, row.first)?;
+fn push_mac(text: &mut String, row: &Row<'_>) -> Result<(), AllocError> {
+    let key = unescaped(row.alloc, row.first)?;
     tokens::mac(text, key.as_slice(), row.behind_first.as_slice())
 }
 
-fn of_others(
-    alloc: Global,
-    text: &mut String,
-    kind: &str,
-    row: &Row<'_>,
-) -> Result<bool, AllocError> {
+fn of_others(text: &mut String, row: &Row<'_>) -> Result<bool, AllocError> {
     let bytes = row.whole.as_slice();
-    match kind {
-        "part" => json::part(alloc, text, bytes)?,
-        "items" => items::items(alloc, text, bytes)?,
-        "hmac" => push_mac(alloc, text, row)?,
-        "accept-key" => handshakes::accepted(alloc, text, bytes)?,
-        "handshake" => handshakes::shaken(alloc, text, bytes)?,
-        "token" => tokens::written(alloc, text, row.first, row.second, row.rest)?,
-        "check" => tokens::checked(alloc, text, row.first, row.second, row.rest)?,
+    match row.kind {
+        "part" => json::part(row.alloc, text, bytes)?,
+        "items" => items::items(row.alloc, text, bytes)?,
+        "hmac" => push_mac(text, row)?,
+        "accept-key" => handshakes::accepted(row.alloc, text, bytes)?,
+        "handshake" => handshakes::shaken(row.alloc, text, bytes)?,
+        "token" => tokens::written(row.alloc, text, row.first, row.second, row.rest)?,
+        "check" => tokens::checked(row.alloc, text, row.first, row.second, row.rest)?,
         _ => return Ok(false),
     }
     Ok(true)
 }
 
 /// Adds what the reader of a kind answers. It says whether there is such a kind.
-fn push_answer(
-    alloc: Global,
-    text: &mut String,
-    kind: &str,
-    row: &Row<'_>,
-) -> Result<bool, AllocError> {
+fn push_answer(text: &mut String, row: &Row<'_>) -> Result<bool, AllocError> {
     Ok(
-        of_heads(alloc, text, kind, row)?
-            || of_bodies(alloc, text, kind, row)?
-            || of_answers(alloc, text, kind, row)?
-            || of_grip(alloc, text, kind, row)?
-            || of_others(alloc, text, kind, row)?,
+        of_heads(text, row)?
+            || of_bodies(text, row)?
+            || of_answers(text, row)?
+            || of_grip(text, row)?
+            || of_others(text, row)?,
     )
 }
 
 /// The line with the answer of a row, or an empty text where the line is no row.
 fn answer(alloc: Global, line: &str) -> Result<String, AllocError> {
-    let (kind, rest) = cut(line);
-    let row = Row::read(alloc, rest)?;
+    let row = Row::read(alloc, line)?;
     let mut text = String::from_str(alloc, "= ")?;
-    if !push_answer(alloc, &mut text, kind, &row)? {
+    if !push_answer(&mut text, &row)? {
         text.clear();
     }
     Ok(text)
