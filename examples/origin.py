@@ -4,7 +4,7 @@
     examples/origin.py PORT [KEY]
 
 GET / is a page. POST /echo answers the body that it was sent. GET /count comes in chunks. GET /signed says whether the request
-carries a token that was signed with KEY. GET /hold asks by GRIP that the request be held open.
+carries a token that was signed with KEY. GET /events/CHANNEL asks by GRIP for a stream of the channel, behind the item `a`.
 """
 
 import base64
@@ -56,8 +56,9 @@ class Handler(BaseHTTPRequestHandler):
         elif self.path == "/signed":
             known = is_signed(self.server.key, self.headers.get("grip-sig", ""))
             self.answer(200, b"signed\n" if known else b"not signed\n")
-        elif self.path == "/hold":
-            self.answer(200, b"", grip_hold="stream", grip_channel="news")
+        elif self.path.startswith("/events/"):
+            channel = self.path.removeprefix("/events/")
+            self.answer(200, b"welcome\n", grip_hold="stream", grip_channel=f"{channel}; prev-id=a")
         else:
             self.answer(404, b"The origin has no such page\n")
 

@@ -30,7 +30,7 @@ def blocks():
             if line.startswith("    $ "):
                 printed = []
                 calls.append((line[6:], printed))
-            elif line.startswith("    session "):
+            elif line.startswith(("    session ", "    hold ")):
                 report.append(line[4:])
             elif line.startswith("    ") and printed is not None:
                 printed.append(line[4:])
@@ -72,6 +72,18 @@ def call(command, server):
         time.sleep(0.1)
 
 
+def in_order(lines):
+    """The lines of a report by the numbers of the sessions, each with the lines of its holds behind it."""
+    sessions = []
+    for line in lines:
+        if line.startswith("hold ") and sessions:
+            sessions[-1].append(line)
+        else:
+            sessions.append([line])
+    sessions.sort(key=lambda each: int((each[0].split() + ["0", "0"])[1]))
+    return "\n".join(line for each in sessions for line in each)
+
+
 def is_as_told(what, wanted, got):
     if got == wanted:
         print(f"as told: {what}")
@@ -89,14 +101,13 @@ def play(program, started, folder):
         here.write(moved(told.read(), ports))
     origin = [sys.executable, os.path.join(HERE, "origin.py"), str(ports["8000"]), "secret"]
     start(started, origin, stderr=subprocess.DEVNULL)
-    server = [program, "serve", routes, "--workers", "1", "--sessions", str(len(report)), "--key", "secret"]
+    server = [program, "serve", routes, "--workers", "1", "--sessions", str(sum(line.startswith("session ") for line in report)), "--key", "secret"]
     server += ["--client", str(ports["7999"]), "--publish", str(ports["5561"])]
     until_up(ports["8000"])
     server = start(started, server, stdout=subprocess.PIPE, stderr=subprocess.PIPE, text=True)
     well = [is_as_told(command, wanted, call(moved(command, ports), server)) for command, wanted in calls]
     printed, errors = server.communicate(timeout=20)
-    lines = sorted(printed.splitlines(), key=lambda line: int((line.split() + ["0", "0"])[1]))
-    well.append(is_as_told("the report", "\n".join(report), "\n".join(lines)))
+    well.append(is_as_told("the report", "\n".join(report), in_order(printed.splitlines())))
     well.append(is_as_told("the exit status", "0", str(server.returncode)))
     well.append(is_as_told("standard error", "", errors.strip()))
     return all(well)

@@ -12,8 +12,8 @@ use Rattle.gp_session.specs.Seats.{SeatView}
 use Rattle.gp_session_hold.specs.Rows.{DetachedRow, EntriesRow, IsOwn, IsOwnEvent, holds_of, numbers_of}
 use Rattle.gp_session_http.specs.Holding.{EntriesAtEnd}
 use Rattle.gp_session_http.specs.Views.{LiveView}
-use Rattle.gp_session_http.specs.declared.stage.Ended.{Ended}
 use Rattle.gp_session_http.proofs.Ending.{leaves_reports, leaves_released, leaves_seat}
+use Rattle.gp_session_http.proofs.Headlining.{headline_end}
 use Rattle.atomic_table.specs.Seated.{TableId}
 use Rattle.gp_plain.specs.declared.event.Entry.{Entry}
 use Rattle.gp_plain.specs.Others.{Share, shares}
@@ -75,7 +75,7 @@ quiet_by ClientGone s row = quiet_end s row
 quiet_by Worn s row = quiet_rows s row
 quiet_by NoMemory s row = quiet_end s row
 
-none_published : (l : LiveView) (ended : Ended) → PhaseFinishes l ended → count_by publishes (mine l.seat.pass) ≡ 0
+none_published : (l : LiveView) (ended : _) → PhaseFinishes l ended → count_by publishes (mine l.seat.pass) ≡ 0
 none_published l ended (inl f) = ap (count_by publishes) f.told.stays.entries
 none_published l ended (inr f) = quiet_by ended.end l.seat f.entries
 
@@ -86,8 +86,7 @@ module _ {L D C : Type 0} (links : L → LinkTells) (dials : D → DialTells) (c
       let seat = l.live.seat in
       let first = seat.start.number in
       let r = range first numbers in
-      let ended : Ended = record { end = over.outcome.end; why = over.outcome.why } in
-      let row = leaves_seat l.live ended l.leaves.finishes in
+      let row = leaves_seat l.live _ l.leaves.finishes in
       let is = l.leaves.pass in
       let same = row.same in
       let number : over.outcome.pass.number ≡ first = ap (λ (p : HubView). p.number) is ∙ same.number in
@@ -97,16 +96,16 @@ module _ {L D C : Type 0} (links : L → LinkTells) (dials : D → DialTells) (c
       let count : published_by r over.outcome.pass.seen ≡ 0 =
       ap (λ (p : HubView). published_by r p.seen) is ∙ published_mine r first seat.pass.seen one
       ∙ ap (λ (n : ℕ). count_by publishes (filter (λ (e : Entry). e.who == n) seat.pass.seen)) (sym same.number)
-      ∙ none_published l.live ended l.leaves.finishes in
+      ∙ none_published l.live _ l.leaves.finishes in
       record {
         turn = ap (λ (p : HubView). p.turn) is ∙ same.turn ∙ u.turn;
         number = number;
         parts = ap (λ (p : HubView). p.parts) is ∙ same.parts ∙ u.parts;
         ranges = λ n some. subst (λ (p : HubView). 0 < times_in n (ranges_of p)) (sym is) (in_ranges turn seat.start seat.pass n u same some);
-        holds = l.leaves.holds ∙ leaves_reports l.live ended l.leaves.finishes ∙ ap (map hold_report) (sym own);
-        kept = λ serves. subst (All (λ (hold : ℕ × Share). hold.1.released ≡ true)) (sym own) (leaves_released l.live ended l.leaves.finishes serves);
+        holds = l.leaves.holds ∙ leaves_reports l.live _ l.leaves.finishes ∙ ap (map hold_report) (sym own);
+        kept = λ serves. subst (All (λ (hold : ℕ × Share). hold.1.released ≡ true)) (sym own) (leaves_released l.live _ l.leaves.finishes serves);
         published = l.leaves.published ∙ sym count;
-        is = client (record { start = start; unused = link; uncalled = dial; pass = pass; outcome = over.outcome; leaves = l; told = record { seen_is = refl; number_is = number; end_is = refl; holds_are = refl } });
+        is = client (record { start = start; unused = link; uncalled = dial; pass = pass; outcome = over.outcome; leaves = l; headline = headline_end l.live _ l.leaves.finishes; told = record { seen_is = refl; number_is = number; end_is = refl; holds_are = refl } });
       }
 
   -- what a client's session leaves that began with an unused pass, over an unused link and dialer

@@ -57,7 +57,7 @@ use Rattle.gp_session.specs.contracts.watch.Watch as Watch
 use Rattle.gp_session.specs.contracts.watch.Watch.TheInside as WatchInside
 use Rattle.gp_plain.proofs.event.HoldSpec.TheSendSync as spec
 use Rattle.gp_plain.proofs.http.Response.TheSendSync as response
-use Rattle.gp_plain.proofs.list.List.TheSendSync as list
+use Rattle.gp_plain.proofs.roomed.Roomed.TheSendSync as roomed
 use Rattle.gp_plain.proofs.reply.HoldReport.TheSendSync as report
 use Rattle.gp_instruct_json.specs.contracts.answer.Answer as Answer
 use Rattle.gp_session_hold.proofs.hold.KeptHold.TheSendSync as kept_hold
@@ -209,7 +209,7 @@ module _ (ℓ : NamedLft) (L D C : RattleType) (g : link.Ghosts L.Denot) (h : di
   watch_send = view_send _ _ _ _ _ (declared_send (WatchInside.the_type C i) (search (c, sendable) depth 20, (kept C, (search sendable depth 20, tt))))
 
   pub http_live_send : IsSend (HttpLive.the_row ℓ L D C g h i)
-  http_live_send = view_send _ _ _ _ _ (declared_send (HttpLiveInside.the_type ℓ L D C g h i) (search crosses depth 20, (wire_send ℓ L g l, (line_send, (watch_send, (seat_send ℓ, (search (routes.the_sync, sendable) depth 20, (search (signer.the_sync, sendable) depth 20, (body_bytes.the_send, (search (list.the_send, report.the_send, sendable) depth 20, tt))))))))))
+  http_live_send = view_send _ _ _ _ _ (declared_send (HttpLiveInside.the_type ℓ L D C g h i) (search crosses depth 20, (wire_send ℓ L g l, (line_send, (watch_send, (seat_send ℓ, (search (routes.the_sync, sendable) depth 20, (search (signer.the_sync, sendable) depth 20, (body_bytes.the_send, (search (roomed.the_send, report.the_send, as_row_send, sendable) depth 20, tt))))))))))
 
   pub http_open_send : IsSend (HttpOpen.the_row ℓ L D C g h i)
   http_open_send = view_send _ _ _ _ _ (declared_send (HttpOpenInside.the_type ℓ L D C g h i) (http_live_send, (phase_send, tt)))

@@ -11,6 +11,7 @@ use Rattle.gp_routes.specs.declared.route.Rule.{Rule}
 use Rattle.gp_hub.specs.Passes.{HubView}
 use Rattle.gp_hub.specs.declared.outcome.Outcome.{Outcome}
 use Rattle.gp_hub.specs.declared.outcome.SessionEnd.{SessionEnd}
+use Rattle.gp_session_http.specs.Headlines.{HasHeadline}
 use Rattle.gp_session_http.specs.Routing.{Charter}
 use Rattle.gp_session_http.specs.Views as http
 use Rattle.gp_session_http.specs.Polls as http_polls
@@ -83,7 +84,8 @@ module _ {L D C : Type 0} where
   GivesClient links dials clocks s over =
       IfSome s.open_is (λ (p : http_polls.OpenView). LeavesClient links dials clocks (http_polls.start_of p.live) p.live.seat.start p.live.charter over)
 
-  -- A session of a client that began over an unused link and dialer left this. It was known by the claim.
+  -- A session of a client that began over an unused link and dialer left this. It was known by the claim. What it sent of a hold follows each
+  -- chain that covers the hold.
   pub record OfClient (links : L → LinkTells) (dials : D → DialTells) (clocks : C → ClockTells) (server : ServerView) (seen : List Entry) (claim number : ℕ) (end : SessionEnd) (holds : List HoldReport) (link : L) (others : Option (D × C)) : Type 0 where
     pub start : http_polls.DevicesView
     pub unused : IsUnusedLink start.link
@@ -91,6 +93,7 @@ module _ {L D C : Type 0} where
     pub pass : HubView
     pub outcome : Outcome
     pub leaves : LeavesClient links dials clocks start pass (charter_of server claim) (record { outcome = outcome; link = link; others = others })
+    pub headline : HasHeadline leaves.live
     pub told : IsTold seen number end holds outcome
 
   -- what is meant, by the kind of session

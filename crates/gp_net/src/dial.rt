@@ -3,19 +3,21 @@ ghost use Rattle.std.specs.Prelude.{◌≡◌};
 ghost use Rattle.gp_outside.specs.Unused.{IsUnusedDial};
 
 use crate::line::Line;
+use crate::names::Names;
 use crate::ready::Sockets;
 use gp_outside::{Connected, Dial, Got, Put};
 use gp_plain::Address;
 use std::alloc::Global;
 use std::marker::Model;
 use std::net::Net;
+use std::time;
 
 /// A dialer over sockets. It tells no talks.
 ///
-/// The first `connect` of a talk asks the system for the addresses of the host, and waits where that is a name that the
-/// system has to ask others for. Nothing else waits. The addresses are tried in turn.
+/// The first `connect` of a talk asks the system for the addresses of the host, unless they were told in the last minute. It waits where
+/// the host is a name that the system has to ask others for. Nothing else waits. The addresses are tried in turn.
 #[derive(Drop)]
-pub struct NetDial<R: Net + Drop> {
+pub struct NetDial<R: Net + time::Clock + Drop> {
     line: Line<R>,
     faults: u64,
     connect_waits: u64,
@@ -24,7 +26,7 @@ pub struct NetDial<R: Net + Drop> {
     ends: u64,
 }
 
-impl<R: Net + Drop> Model for NetDial<R> {
+impl<R: Net + time::Clock + Drop> Model for NetDial<R> {
     ghost use Rattle.std.specs.Prelude.{None};
     ghost use Rattle.gp_outside.specs.Dials.{DialTells};
 
@@ -33,13 +35,18 @@ impl<R: Net + Drop> Model for NetDial<R> {
     ghost view = { λ d. record { talks = None; faults = d.faults; connect_waits = d.connect_waits; read_waits = d.read_waits; write_waits = d.write_waits; ends = d.ends } };
 }
 
-impl<R: Net + Drop> NetDial<R> {
-    /// A dialer in no talk. Without sockets each connect fails.
-    pub fn new(alloc: Global, net: R, sockets: Option<Sockets>) -> NetDial<R>
+impl<R: Net + time::Clock + Drop> NetDial<R> {
+    /// A dialer in no talk. Without sockets each connect fails, and without names each host is looked up anew.
+    pub(crate) fn new(
+        alloc: Global,
+        system: R,
+        names: Option<Names>,
+        sockets: Option<Sockets>,
+    ) -> NetDial<R>
         ensures { IsUnusedDial result }
     {
         NetDial {
-            line: Line::new(alloc, net, sockets),
+            line: Line::new(alloc, system, names, sockets),
             faults: 0,
             connect_waits: 0,
             read_waits: 0,
@@ -49,7 +56,7 @@ impl<R: Net + Drop> NetDial<R> {
     }
 }
 
-impl<R: Net + Drop> Dial for NetDial<R> {
+impl<R: Net + time::Clock + Drop> Dial for NetDial<R> {
     ghost tells = { λ d. d };
 
     fn connect(&mut self, to: &Address) -> Connected {

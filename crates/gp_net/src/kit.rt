@@ -8,6 +8,7 @@ use crate::dial::NetDial;
 use crate::idle::NetIdle;
 use crate::link::NetLink;
 use crate::listen::NetListen;
+use crate::names::Names;
 use gp_outside::{FreeGate, Kit};
 use std::alloc::{AllocError, Global};
 use std::marker::Model;
@@ -25,6 +26,7 @@ pub struct NetKit<R: Net + time::Clock + Copy + Drop> {
     idle: NetIdle,
     gate: FreeGate,
     bells: Bells,
+    names: Names,
 }
 
 impl<R: Net + time::Clock + Copy + Drop> Model for NetKit<R> {
@@ -51,6 +53,7 @@ impl<R: Net + time::Clock + Copy + Drop> NetKit<R> {
         publishers: NetListen,
         idle: NetIdle,
         bells: Bells,
+        names: Names,
     ) -> NetKit<R>
         ensures { result ≡ record { clients = clients; publishers = publishers; idle = idle; gate = record {}; handed = None } }
     {
@@ -62,6 +65,7 @@ impl<R: Net + time::Clock + Copy + Drop> NetKit<R> {
             idle,
             gate: FreeGate,
             bells,
+            names,
         }
     }
 }
@@ -102,7 +106,8 @@ impl<R: Net + time::Clock + Copy + Drop + Send> Kit for NetKit<R> {
     }
 
     fn dial(&mut self) -> NetDial<R> {
-        NetDial::new(self.alloc, self.system, self.idle.sockets().ok())
+        let (names, sockets) = (self.names.copy().ok(), self.idle.sockets().ok());
+        NetDial::new(self.alloc, self.system, names, sockets)
     }
 
     fn clock(&mut self) -> NetClock<R> {

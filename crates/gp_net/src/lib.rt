@@ -16,6 +16,7 @@ mod kit;
 mod line;
 mod link;
 mod listen;
+mod names;
 mod out;
 mod ports;
 mod ready;

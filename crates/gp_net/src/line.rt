@@ -2,13 +2,15 @@
 ghost use Rattle.std.specs.Prelude.{◌<◌, length};
 ghost use Rattle.gp_net.specs.Moved.{IsGotOf, IsPutOf};
 
+use crate::names::Names;
 use crate::ready::Sockets;
 use crate::socket::Socket;
 use gp_outside::{Connected, Got, Put};
 use gp_plain::Address;
 use std::alloc::Global;
 use std::mem;
-use std::net::{Ipv4Addr, Net, SocketAddr};
+use std::net::{IpAddr, Ipv4Addr, Net, SocketAddr};
+use std::time::{self, Instant};
 
 /// The addresses of one host that are tried, at most.
 const ADDRESSES: usize = 8;
@@ -26,39 +28,68 @@ enum Talk {
 
 /// A line to origins.
 #[derive(Drop)]
-pub(crate) struct Line<R: Net + Drop> {
+pub(crate) struct Line<R: Net + time::Clock + Drop> {
     alloc: Global,
-    net: R,
+    system: R,
+    names: Option<Names>,
     sockets: Option<Sockets>,
     talk: Talk,
 }
 
-impl<R: Net + Drop> Line<R> {
-    /// A line in no talk.
-    pub(crate) fn new(alloc: Global, net: R, sockets: Option<Sockets>) -> Line<R> {
+impl<R: Net + time::Clock + Drop> Line<R> {
+    /// A line in no talk. Without names each host is looked up anew.
+    pub(crate) fn new(
+        alloc: Global,
+        system: R,
+        names: Option<Names>,
+        sockets: Option<Sockets>,
+    ) -> Line<R> {
         Line {
             alloc,
-            net,
+            system,
+            names,
             sockets,
             talk: Talk::Over,
         }
     }
 
-    /// The addresses of a host, the first one last. The system's resolver may wait for a name.
-    fn addresses(&self, to: &Address) -> Option<Vec<SocketAddr>> {
-        let host = str::from_utf8(to.host.bytes()).ok()?;
+    /// The addresses of a host by the system's resolver, which may wait where the host is a name.
+    fn look_up(&self, host: &str) -> Option<Vec<IpAddr>> {
         let mut found = [SocketAddr::from((Ipv4Addr::LOCALHOST, 0)); ADDRESSES];
-        let count = self.net.lookup_host(host, to.port, &mut found).ok()?;
+        let count = self.system.lookup_host(host, 0, &mut found).ok()?;
         let mut addresses = Vec::new(self.alloc);
-        for address in found[..count].iter().rev() {
-            addresses.push(*address).ok()?;
+        for address in found[..count].iter() {
+            addresses.push(address.ip()).ok()?;
+        }
+        Some(addresses)
+    }
+
+    /// The addresses of a host: those that are known of it, or those that the resolver tells.
+    fn hosts(&self, host: &str) -> Option<Vec<IpAddr>> {
+        let (Some(names), Ok(now)) = (&self.names, Instant::now(&self.system)) else {
+            return self.look_up(host);
+        };
+        if let Some(addresses) = names.find(self.alloc, host.as_bytes(), now) {
+            return Some(addresses);
+        }
+        let addresses = self.look_up(host)?;
+        names.keep(self.alloc, host.as_bytes(), addresses.as_slice(), now);
+        Some(addresses)
+    }
+
+    /// The sockets' addresses of an origin, the first one last.
+    fn addresses(&self, to: &Address) -> Option<Vec<SocketAddr>> {
+        let hosts = self.hosts(str::from_utf8(to.host.bytes()).ok()?)?;
+        let mut addresses = Vec::new(self.alloc);
+        for host in hosts.iter().rev() {
+            addresses.push(SocketAddr::from((*host, to.port))).ok()?;
         }
         Some(addresses)
     }
 
     /// Begins to connect to an address.
     fn socket_to(&self, address: SocketAddr) -> Option<Socket> {
-        Socket::to_origin(&self.net, address, self.sockets.as_ref()?)
+        Socket::to_origin(&self.system, address, self.sockets.as_ref()?)
     }
 
     /// Waits for a socket, or goes on with the next address that can be tried.

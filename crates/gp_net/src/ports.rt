@@ -1,4 +1,4 @@
-//! What all workers share: the listening sockets of the two ports, and what wakes the workers.
+//! What all workers share: the listening sockets of the two ports, what wakes the workers, and the names of origins.
 ghost use Rattle.std.specs.Prelude.{IfOk};
 ghost use Rattle.gp_outside.specs.Worlds.{IsUnusedKit};
 
@@ -6,6 +6,7 @@ use crate::bells::Bells;
 use crate::idle::NetIdle;
 use crate::kit::NetKit;
 use crate::listen::NetListen;
+use crate::names::Names;
 use mio::net::TcpListener;
 use std::alloc::Global;
 use std::net::{Ipv4Addr, Ipv6Addr, Net, SocketAddr};
@@ -17,12 +18,13 @@ const SOCKETS: usize = 8194;
 /// The workers, at most.
 const WORKERS: usize = 16;
 
-/// The listening sockets of clients and publishers, and the wakers of the workers.
+/// The listening sockets of clients and publishers, the wakers of the workers, and the names of origins that were looked up.
 #[derive(Drop)]
 pub struct Ports {
     clients: net::TcpListener,
     publishers: net::TcpListener,
     bells: Bells,
+    names: Names,
 }
 
 /// A listening socket for clients, on all addresses of the machine.
@@ -48,6 +50,7 @@ impl Ports {
             clients: net::TcpListener::from(clients),
             publishers: net::TcpListener::from(publishers),
             bells: Bells::new(alloc, WORKERS)?,
+            names: Names::new(alloc)?,
         })
     }
 
@@ -75,6 +78,7 @@ impl Ports {
         self.bells.hang(number as usize, idle.waker()?);
         let clients = NetListen::new(copy_of(&self.clients)?, idle.sockets()?)?;
         let publishers = NetListen::new(copy_of(&self.publishers)?, idle.sockets()?)?;
-        Ok(NetKit::new(alloc, system, clients, publishers, idle, self.bells.copy()?))
+        let (bells, names) = (self.bells.copy()?, self.names.copy()?);
+        Ok(NetKit::new(alloc, system, clients, publishers, idle, bells, names))
     }
 }

@@ -1,4 +1,5 @@
 //! A dialer calls a listener over loopback.
+use crate::names::Names;
 use crate::{NetClock, NetDial, NetIdle, NetKit, NetLink, NetListen, Ports};
 use gp_outside::{Accepted, Clock, Connected, Dial, Got, Idle, Kit, Link, Listen, Put};
 use gp_plain::{Address, Body};
@@ -11,7 +12,11 @@ use std::{io, time};
 /// The rests that are waited for one answer, at most.
 const RESTS: u32 = 100;
 
-fn connect<R: Net + Drop>(dial: &mut NetDial<R>, to: &Address, idle: &mut NetIdle) -> Connected {
+fn connect<R: Net + time::Clock + Drop>(
+    dial: &mut NetDial<R>,
+    to: &Address,
+    idle: &mut NetIdle,
+) -> Connected {
     for _ in 0..RESTS {
         match dial.connect(to) {
             Connected::NotReady => idle.rest(),
@@ -43,7 +48,11 @@ fn read(link: &mut NetLink, idle: &mut NetIdle, into: &mut [u8; 16]) -> Got {
     Got::NotReady
 }
 
-fn hear<R: Net + Drop>(dial: &mut NetDial<R>, idle: &mut NetIdle, into: &mut [u8; 16]) -> Got {
+fn hear<R: Net + time::Clock + Drop>(
+    dial: &mut NetDial<R>,
+    idle: &mut NetIdle,
+    into: &mut [u8; 16],
+) -> Got {
     for _ in 0..RESTS {
         match dial.read(into) {
             Got::NotReady => idle.rest(),
@@ -65,7 +74,11 @@ fn write_on(link: &mut NetLink, idle: &mut NetIdle) -> Put {
 }
 
 /// Whether a link that was sent nothing isn't ready, and hears a word, and its answer comes back.
-fn speaks<R: Net + Drop>(dial: &mut NetDial<R>, link: &mut NetLink, idle: &mut NetIdle) -> bool {
+fn speaks<R: Net + time::Clock + Drop>(
+    dial: &mut NetDial<R>,
+    link: &mut NetLink,
+    idle: &mut NetIdle,
+) -> bool {
     let mut bytes = [0u8; 16];
     link.read(&mut bytes) == Got::NotReady
         && link.read(&mut bytes) == Got::NotReady
@@ -78,7 +91,11 @@ fn speaks<R: Net + Drop>(dial: &mut NetDial<R>, link: &mut NetLink, idle: &mut N
 }
 
 /// Whether a link notices that the other side hung up, and the dialer is in no talk then.
-fn ends<R: Net + Drop>(dial: &mut NetDial<R>, link: &mut NetLink, idle: &mut NetIdle) -> bool {
+fn ends<R: Net + time::Clock + Drop>(
+    dial: &mut NetDial<R>,
+    link: &mut NetLink,
+    idle: &mut NetIdle,
+) -> bool {
     let mut bytes = [0u8; 16];
     dial.hang_up();
     read(link, idle, &mut bytes) == Got::End
@@ -95,7 +112,7 @@ fn address(alloc: Global, host: &[u8], port: u16) -> Result<Address, AllocError>
 }
 
 /// Whether a whole talk goes well.
-fn talks<R: Net + Drop>(
+fn talks<R: Net + time::Clock + Drop>(
     dial: &mut NetDial<R>,
     listen: &mut NetListen,
     idle: &mut NetIdle,
@@ -111,7 +128,7 @@ fn talks<R: Net + Drop>(
 }
 
 /// Whether nobody is there at first, and then a talk with each address goes well.
-fn calls<R: Net + Drop>(
+fn calls<R: Net + time::Clock + Drop>(
     dial: &mut NetDial<R>,
     listen: &mut NetListen,
     idle: &mut NetIdle,
@@ -131,7 +148,7 @@ fn listener<R: Net>(rt: &R, idle: &mut NetIdle) -> io::Result<(NetListen, u16)> 
 }
 
 /// Whether a dialer calls a listener until that is gone.
-fn is_called<R: Net + Drop>(
+fn is_called<R: Net + time::Clock + Drop>(
     alloc: Global,
     dial: &mut NetDial<R>,
     mut listen: NetListen,
@@ -150,7 +167,8 @@ fn calls_over_loopback(rt: HostRuntime) -> Result<(), Fail> {
     // The listener, the dialer and a link have just room.
     let mut idle = NetIdle::new(rt.alloc(), &rt, 3)?;
     let (listen, port) = listener(&rt, &mut idle)?;
-    let mut dial = NetDial::new(rt.alloc(), rt, Some(idle.sockets()?));
+    let names = Names::new(rt.alloc())?;
+    let mut dial = NetDial::new(rt.alloc(), rt, Some(names), Some(idle.sockets()?));
     assert!(rt; is_called(rt.alloc(), &mut dial, listen, port, &mut idle)?);
     assert!(rt; NetClock::new(rt).now() > 0);
     Ok(())

@@ -1,14 +1,11 @@
-use crate::http::{Origin, visit_http};
+use crate::http::{Client, Origin, visit_http};
 use crate::shown::{show_taken, show_visit};
-use crate::visit::{attach_news, enter, take};
+use crate::visit::{ROOM, attach_news, enter, fill, take};
 use gp_escapes::unescaped;
 use gp_hub::Hub;
 use gp_outside::{MemLink, Turn, Turns};
 use gp_plain::Body;
 use std::alloc::{AllocError, Global};
-
-/// The room of each link, in bytes.
-const ROOM: usize = 10_000;
 
 /// One case: what the client sends, and what each call on its link does in turn.
 ///
@@ -17,7 +14,10 @@ const ROOM: usize = 10_000;
 /// another visit with the same input.
 ///
 /// With a line `routes TEXT`, a routes file, the client is one of HTTP, and then `key TEXT` is the key of tokens, `answer TEXT` more of what
-/// the origin of the first talk answers, and `connects N TURN`, `receives N TURN` and `asks N TURN` are turns of the dialer's calls.
+/// the origin of the first talk answers, and `connects N TURN`, `receives N TURN` and `asks N TURN` are turns of the dialer's calls. A line
+/// `publisher TEXT` is what a publisher sends that comes while the client waits: the first once the session has waited for long, each
+/// other one as long after the one before. `fill N` is so many bytes more of the answer, and `crowd` says that another pass has attached as
+/// many holds as a hub may have.
 #[derive(Drop)]
 pub struct Case {
     alloc: Global,
@@ -25,9 +25,11 @@ pub struct Case {
     reads: Vec<Turn>,
     writes: Vec<Turn>,
     hold: bool,
+    crowd: bool,
     visits: usize,
     http: bool,
     origin: Origin,
+    publishers: Vec<Body>,
 }
 
 /// Adds turns of one kind, as `N TURN` says.
@@ -73,9 +75,11 @@ impl Case {
             reads: Vec::new(alloc),
             writes: Vec::new(alloc),
             hold: false,
+            crowd: false,
             visits: 1,
             http: false,
             origin: Origin::new(alloc),
+            publishers: Vec::new(alloc),
         }
     }
 
@@ -93,6 +97,15 @@ impl Case {
                 self.http = true;
                 self.origin.routes = unescaped(self.alloc, rest)?;
             }
+            "fill" => {
+                for _byte in 0..rest.parse::<usize>().unwrap_or(0) {
+                    self.origin.answer.push(b'a')?;
+                }
+            }
+            "crowd" => self.crowd = true,
+            "publisher" => self
+                .publishers
+                .push(Body::from_vec(unescaped(self.alloc, rest)?))?,
             "again" => self.visits = self.visits.saturating_add(1),
             _ => {
                 return add_origin(self.alloc, &mut self.origin, kind, rest);
@@ -113,7 +126,15 @@ impl Case {
         let alloc = self.alloc;
         let link = self.link()?;
         let (hub, mut first) = Hub::new(alloc)?;
-        visit_http(alloc, &hub, &mut first, self.origin, link)
+        if self.crowd {
+            fill(alloc, &hub, &mut first)?;
+        }
+        let client = Client {
+            link,
+            origin: self.origin,
+            publishers: self.publishers,
+        };
+        visit_http(alloc, &hub, &mut first, client)
     }
 
     /// What each visit gives, and what the hold takes behind it.

@@ -1,16 +1,20 @@
-ghost use Rattle.std.specs.Prelude.{◌≡◌};
+ghost use Rattle.std.specs.Prelude.{◌≡◌, false};
 ghost use Rattle.gp_session.specs.Seats.{IsFresh};
 ghost use Rattle.gp_session_http.specs.Polls.{HasEnded};
 
+use crate::visit::publish;
 use gp_escapes::escaped;
 use gp_hub::{Hub, HubPass, Outcome, Polled, Session};
 use gp_outside::{Answers, Clock, Dial, Link, MemClock, MemDial, MemLink, Times, Turn, Turns};
-use gp_plain::{Body, Signer};
+use gp_plain::{Body, HoldReport, Signer};
 use gp_routes::{Routes, read_routes};
 use gp_session_http::{Finish, HttpSession};
 use std::alloc::{AllocError, Global};
 
-/// A session is polled at most so often.
+/// A session is polled so often before the next publisher comes.
+const QUIET: usize = 1_000;
+
+/// A session is polled at most so often once the last publisher has left.
 const POLLS: usize = 100_000;
 
 /// The room of the dialer, in bytes.
@@ -42,54 +46,70 @@ impl Origin {
     }
 }
 
-/// A visit that ended: its outcome, its link, and its dialer.
-#[derive(Drop)]
-struct HttpVisit {
-    outcome: Outcome,
-    link: MemLink,
-    dial: MemDial,
+impl Origin {
+    /// The dialer that leads to it.
+    fn dial(self, alloc: Global) -> Result<MemDial, AllocError> {
+        let mut answers = Vec::new(alloc);
+        answers.push(Body::from_vec(self.answer))?;
+        MemDial::new(
+            alloc,
+            Answers::from_vec(answers),
+            ROOM,
+            Turns::from_vec(self.connects),
+            Turns::from_vec(self.reads),
+            Turns::from_vec(self.writes),
+        )
+    }
 }
 
-/// Polls a session to its end.
+/// A session over devices in memory.
+type MemSession<'h> = HttpSession<'h, MemLink, MemDial, MemClock>;
+
+/// Polls a session at most so often, and keeps its outcome where it ended. It says whether it did.
 fn poll_on<'h, L: Link, D: Dial, C: Clock>(
     session: &mut HttpSession<'h, L, D, C>,
-) -> Option<Outcome>
+    polls: usize,
+    ended: &mut Option<Outcome>,
+) -> bool
     requires { HasEnded session.old → ⊥ }
+    ensures { result ≡ false → HasEnded session.new → ⊥ }
 {
-    for _poll in 0..POLLS {
+    for _poll in 0..polls {
         match session.poll() {
-            Polled::Ready(Finish::Done(outcome)) => return Some(outcome),
-            Polled::Ready(Finish::Upgrade(_)) => return None,
+            Polled::Ready(Finish::Done(outcome)) => {
+                *ended = Some(outcome);
+                return true;
+            }
+            Polled::Ready(Finish::Upgrade(_)) => unreachable!(),
             Polled::Pending => {}
         }
     }
-    None
+    false
 }
 
-/// A session over these devices, polled to its end.
-fn stay(
+/// What each publisher of a list in turn is answered while the session of a client waits. The outcome of that session is kept, if it ended.
+/// A publisher that comes behind the end isn't served.
+fn stay<'h>(
     alloc: Global,
     hub: &Hub,
-    pass: HubPass,
-    routes: &Routes,
-    signer: &Signer,
-    link: MemLink,
-    dial: MemDial,
-) -> Option<HttpVisit>
-    requires turn { pass.turn ≡ hub.now }
-    requires fresh { IsFresh pass }
+    first: &mut HubPass,
+    session: &mut MemSession<'h>,
+    publishers: Vec<Body>,
+    text: &mut String,
+    ended: &mut Option<Outcome>,
+) -> Result<(), AllocError>
+    requires turn { first.old.turn ≡ hub.now }
+    requires open { HasEnded session.old → ⊥ }
+    ensures { first.new.turn ≡ first.old.turn }
 {
-    let tag = Body::empty(alloc);
-    let clock = MemClock::new(Times::new(alloc));
-    let mut session = HttpSession::new(alloc, hub, pass, routes, signer, tag, link, dial, clock);
-    let outcome = poll_on(&mut session);
-    let parts = session.parts();
-    let (link, dial, _clock) = parts?;
-    Some(HttpVisit {
-        outcome: outcome?,
-        link,
-        dial,
-    })
+    for input in publishers {
+        if poll_on(session, QUIET, ended) {
+            return Ok(());
+        }
+        publish(alloc, hub, first, input, text)?;
+    }
+    poll_on(session, POLLS, ended);
+    Ok(())
 }
 
 fn push(text: &mut String, line: String) -> Result<(), AllocError> {
@@ -97,25 +117,63 @@ fn push(text: &mut String, line: String) -> Result<(), AllocError> {
     text.push('\n')
 }
 
-/// What was sent to the client and in the first talk, and how the session ended.
-fn show(alloc: Global, visit: Option<&HttpVisit>) -> Result<String, AllocError> {
-    let mut text = String::new(alloc);
-    let Some(visit) = visit else {
-        push(&mut text, format!(in alloc; "goes on")?)?;
-        return Ok(text);
-    };
-    match visit.dial.sent(0) {
+/// What was sent to the origin in the first talk.
+fn show_asked(alloc: Global, text: &mut String, dial: &MemDial) -> Result<(), AllocError> {
+    match dial.sent(0) {
         Some(bytes) => {
             let asked = escaped(alloc, bytes)?;
-            push(&mut text, format!(in alloc; "asked {asked}")?)?;
+            push(text, format!(in alloc; "asked {asked}")?)
         }
-        None => push(&mut text, format!(in alloc; "asked nothing")?)?,
+        None => push(text, format!(in alloc; "asked nothing")?),
     }
-    let sent = escaped(alloc, visit.link.sent())?;
-    push(&mut text, format!(in alloc; "sent {sent}")?)?;
-    let (end, why) = (visit.outcome.end, visit.outcome.why);
-    push(&mut text, format!(in alloc; "{end:?} {why:?}")?)?;
-    Ok(text)
+}
+
+/// What became of a hold.
+fn show_report(alloc: Global, text: &mut String, report: &HoldReport) -> Result<(), AllocError> {
+    let position = match &report.position {
+        Some(id) => escaped(alloc, id.bytes())?,
+        None => String::from_str(alloc, "nowhere")?,
+    };
+    let (kind, pieces, bytes, end) = (report.kind, report.pieces, report.bytes, report.end);
+    push(
+        text,
+        format!(in alloc; "held {kind:?} pieces {pieces} bytes {bytes} at {position} {end:?}")?,
+    )
+}
+
+/// What became of the holds of a session, and how it ended.
+fn show_outcome(alloc: Global, text: &mut String, outcome: &Outcome) -> Result<(), AllocError> {
+    for place in 0..outcome.holds.len() {
+        if let Some(report) = outcome.holds.at(place) {
+            show_report(alloc, text, report)?;
+        }
+    }
+    let (end, why) = (outcome.end, outcome.why);
+    push(text, format!(in alloc; "{end:?} {why:?}")?)
+}
+
+/// What was sent to the client and in the first talk, and how the session ended.
+fn show(
+    alloc: Global,
+    text: &mut String,
+    outcome: Option<Outcome>,
+    parts: Option<(MemLink, MemDial, MemClock)>,
+) -> Result<(), AllocError> {
+    let (Some(outcome), Some((link, dial, _clock))) = (outcome, parts) else {
+        return push(text, format!(in alloc; "goes on")?);
+    };
+    show_asked(alloc, text, &dial)?;
+    let sent = escaped(alloc, link.sent())?;
+    push(text, format!(in alloc; "sent {sent}")?)?;
+    show_outcome(alloc, text, &outcome)
+}
+
+/// A client of HTTP: its link, its origin, and what each publisher sends that comes in turn while it is there.
+#[derive(Drop)]
+pub struct Client {
+    pub link: MemLink,
+    pub origin: Origin,
+    pub publishers: Vec<Body>,
 }
 
 /// A visit of a client with a pass of its own, and what it gives.
@@ -123,8 +181,7 @@ pub fn visit_http(
     alloc: Global,
     hub: &Hub,
     first: &mut HubPass,
-    origin: Origin,
-    link: MemLink,
+    client: Client,
 ) -> Result<String, AllocError>
     requires { first.old.turn ≡ hub.now }
     ensures { first.new.turn ≡ first.old.turn }
@@ -132,21 +189,35 @@ pub fn visit_http(
     if first.spare() <= 1 {
         return format!(in alloc; "no number is left\n");
     }
+    let Client {
+        link,
+        mut origin,
+        publishers,
+    } = client;
     let Ok(routes) = read_routes(alloc, origin.routes.as_slice()) else {
         return format!(in alloc; "no routes\n");
     };
-    let mut answers = Vec::new(alloc);
-    answers.push(Body::from_vec(origin.answer))?;
-    let dial = MemDial::new(
-        alloc,
-        Answers::from_vec(answers),
-        ROOM,
-        Turns::from_vec(origin.connects),
-        Turns::from_vec(origin.reads),
-        Turns::from_vec(origin.writes),
-    )?;
-    let signer = Signer { key: origin.key };
+    let signer = Signer {
+        key: origin.key.take(),
+    };
+    let dial = origin.dial(alloc)?;
+    let clock = MemClock::new(Times::new(alloc));
     let pass = hub.split(first, 1)?;
-    let visit = stay(alloc, hub, pass, &routes, &signer, link, dial);
-    show(alloc, visit.as_ref())
+    let tag = Body::empty(alloc);
+    let mut text = String::new(alloc);
+    let mut session = HttpSession::new(alloc, hub, pass, &routes, &signer, tag, link, dial, clock);
+    let mut outcome = None;
+    let stayed = stay(
+        alloc,
+        hub,
+        first,
+        &mut session,
+        publishers,
+        &mut text,
+        &mut outcome,
+    );
+    let parts = session.parts();
+    stayed?;
+    show(alloc, &mut text, outcome, parts)?;
+    Ok(text)
 }

@@ -2,8 +2,9 @@ ghost use Rattle.std.specs.Prelude.{◌≡◌, true, IfSome};
 ghost use Rattle.gp_plain.specs.Fit.{fits};
 ghost use Rattle.gp_session.specs.Seats.{IsFresh};
 
+use crate::shown::show_visit;
 use gp_hub::{Hub, HubPass, Outcome, Polled, Session};
-use gp_outside::MemLink;
+use gp_outside::{MemLink, Turns};
 use gp_plain::{Body, Event, HoldSpec, ItemId, Name, Reply, Taken};
 use gp_session_publish::PublishSession;
 use std::alloc::{AllocError, Global};
@@ -17,6 +18,12 @@ pub struct Visit {
     pub outcome: Outcome,
     pub link: MemLink,
 }
+
+/// How many holds a hub may have.
+const HOLDS: usize = 4_096;
+
+/// The room of each link, in bytes.
+pub const ROOM: usize = 10_000;
 
 /// Polls a session to its end.
 fn stay(alloc: Global, hub: &Hub, pass: HubPass, link: MemLink) -> Option<Visit>
@@ -53,6 +60,23 @@ pub fn enter(
     Ok(stay(alloc, hub, pass, link))
 }
 
+/// A visit of a publisher that sends so much over a link that is always ready, and what it gives.
+pub fn publish(
+    alloc: Global,
+    hub: &Hub,
+    first: &mut HubPass,
+    input: Body,
+    text: &mut String,
+) -> Result<(), AllocError>
+    requires { first.old.turn ≡ hub.now }
+    ensures { first.new.turn ≡ first.old.turn }
+{
+    let (reads, writes) = (Turns::new(alloc), Turns::new(alloc));
+    let link = MemLink::new(alloc, input, ROOM, reads, writes)?;
+    let visit = enter(alloc, hub, first, link)?;
+    show_visit(alloc, text, visit.as_ref())
+}
+
 /// A reliable hold on `news` at `a`, without an opening and without a link.
 fn news(alloc: Global) -> Option<Event>
     ensures { IfSome result (λ event. fits event ≡ true) }
@@ -79,6 +103,17 @@ pub fn attach_news(alloc: Global, hub: &Hub, first: &mut HubPass) -> Result<Opti
         Ok(Reply::Attached(number)) => Ok(Some(number)),
         _ => Ok(None),
     }
+}
+
+/// Attaches such holds until no more may be.
+pub fn fill(alloc: Global, hub: &Hub, first: &mut HubPass) -> Result<(), AllocError>
+    requires { first.old.turn ≡ hub.now }
+    ensures { first.new.turn ≡ first.old.turn }
+{
+    for _hold in 0..HOLDS {
+        attach_news(alloc, hub, first)?;
+    }
+    Ok(())
 }
 
 /// What a Take of a hold gives.
