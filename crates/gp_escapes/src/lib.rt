@@ -6,4 +6,4 @@
 
 mod text;
 
-pub use text::{escaped, unescaped};
+pub use text::{escaped, push_escaped, unescaped};

@@ -67,17 +67,23 @@ pub fn unescaped(alloc: Global, text: &str) -> Result<Vec<u8>, AllocError> {
     Ok(bytes)
 }
 
-/// The text of bytes, each that isn't printable ASCII escaped.
-pub fn escaped(alloc: Global, bytes: &[u8]) -> Result<String, AllocError> {
-    let mut text = String::new(alloc);
+/// Adds the text of bytes, each that isn't printable ASCII escaped.
+pub fn push_escaped(text: &mut String, bytes: &[u8]) -> Result<(), AllocError> {
     for byte in bytes {
         match *byte {
             b'\r' => text.push_str("\\r")?,
             b'\n' => text.push_str("\\n")?,
             b'\t' => text.push_str("\\t")?,
             b' '..=b'~' => text.push(char::from(*byte))?,
-            other => text.push_str(format!(in alloc; "\\x{other:02x}")?.as_str())?,
+            other => write!(text, "\\x{other:02x}")?,
         }
     }
+    Ok(())
+}
+
+/// The text of bytes, each that isn't printable ASCII escaped.
+pub fn escaped(alloc: Global, bytes: &[u8]) -> Result<String, AllocError> {
+    let mut text = String::new(alloc);
+    push_escaped(&mut text, bytes)?;
     Ok(text)
 }

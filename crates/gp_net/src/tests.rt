@@ -4,9 +4,10 @@ use crate::{NetClock, NetDial, NetIdle, NetKit, NetLink, NetListen, Ports};
 use gp_outside::{Accepted, Clock, Connected, Dial, Got, Idle, Kit, Link, Listen, Put};
 use gp_plain::{Address, Body};
 use mio::net::TcpListener;
+use std::alloc::{AllocError, Global};
 use std::net::{Ipv4Addr, Net, SocketAddr};
 use std::test::Fail;
-use std::time;
+use std::{io, time};
 
 /// The rests that are waited for one answer, at most.
 const RESTS: u32 = 100;
@@ -103,6 +104,13 @@ fn ends<R: Net + time::Clock + Drop>(
         && dial.write(b"late") == Put::Failed
 }
 
+fn address(alloc: Global, host: &[u8], port: u16) -> Result<Address, AllocError> {
+    Ok(Address {
+        host: Body::new(alloc, host)?,
+        port,
+    })
+}
+
 /// Whether a whole talk goes well.
 fn talks<R: Net + time::Clock + Drop>(
     dial: &mut NetDial<R>,
@@ -119,31 +127,49 @@ fn talks<R: Net + time::Clock + Drop>(
     }
 }
 
+/// Whether nobody is there at first, and then a talk with each address goes well.
+fn calls<R: Net + time::Clock + Drop>(
+    dial: &mut NetDial<R>,
+    listen: &mut NetListen,
+    idle: &mut NetIdle,
+    by_number: &Address,
+    by_name: &Address,
+) -> bool {
+    matches!(listen.accept(), Accepted::NotReady)
+        && talks(dial, listen, idle, by_number)
+        && talks(dial, listen, idle, by_name)
+}
+
+/// A listener on loopback, and its port.
+fn listener<R: Net>(rt: &R, idle: &mut NetIdle) -> io::Result<(NetListen, u16)> {
+    let socket = TcpListener::bind(rt, SocketAddr::from((Ipv4Addr::LOCALHOST, 0)))?;
+    let port = socket.local_addr()?.port();
+    Ok((NetListen::new(socket, idle.sockets()?)?, port))
+}
+
+/// Whether a dialer calls a listener until that is gone.
+fn is_called<R: Net + time::Clock + Drop>(
+    alloc: Global,
+    dial: &mut NetDial<R>,
+    mut listen: NetListen,
+    port: u16,
+    idle: &mut NetIdle,
+) -> Result<bool, AllocError> {
+    let by_number = address(alloc, b"127.0.0.1", port)?;
+    let by_name = address(alloc, b"localhost", port)?;
+    let is_heard = calls(dial, &mut listen, idle, &by_number, &by_name);
+    drop(listen);
+    Ok(is_heard && connect(dial, &by_number, idle) == Connected::Failed)
+}
+
 #[test]
 fn calls_over_loopback(rt: HostRuntime) -> Result<(), Fail> {
-    let alloc = rt.alloc();
     // The listener, the dialer and a link have just room.
-    let mut idle = NetIdle::new(alloc, &rt, 3)?;
-    let socket = TcpListener::bind(&rt, SocketAddr::from((Ipv4Addr::LOCALHOST, 0)))?;
-    let port = socket.local_addr()?.port();
-    let mut listen = NetListen::new(socket, idle.sockets()?)?;
-    let mut dial = NetDial::new(alloc, rt, Some(Names::new(alloc)?), Some(idle.sockets()?));
-    let by_number = Address {
-        host: Body::new(alloc, b"127.0.0.1")?,
-        port,
-    };
-    let by_name = Address {
-        host: Body::new(alloc, b"localhost")?,
-        port,
-    };
-    assert!(rt; matches!(listen.accept(), Accepted::NotReady));
-    assert!(rt; talks(&mut dial, &mut listen, &mut idle, &by_number));
-    assert!(rt; talks(&mut dial, &mut listen, &mut idle, &by_name));
-    drop(listen);
-    assert_eq!(rt;
-        connect(&mut dial, &by_number, &mut idle),
-        Connected::Failed
-    );
+    let mut idle = NetIdle::new(rt.alloc(), &rt, 3)?;
+    let (listen, port) = listener(&rt, &mut idle)?;
+    let names = Names::new(rt.alloc())?;
+    let mut dial = NetDial::new(rt.alloc(), rt, Some(names), Some(idle.sockets()?));
+    assert!(rt; is_called(rt.alloc(), &mut dial, listen, port, &mut idle)?);
     assert!(rt; NetClock::new(rt).now() > 0);
     Ok(())
 }
@@ -163,22 +189,39 @@ fn wakes<R: Net + time::Clock + Copy + Drop + Send>(
     grew && is_over && resting.idle().wait == 1
 }
 
+/// Whether a client of one worker's ports comes to the other, and its end wakes that.
+fn shares<R: Net + time::Clock + Copy + Drop + Send>(
+    first: &mut NetKit<R>,
+    second: &mut NetKit<R>,
+    to: &Address,
+) -> bool {
+    let mut dial = first.dial();
+    if connect(&mut dial, to, first.idle()) != Connected::Done {
+        return false;
+    }
+    second.idle().rest();
+    match second.clients().accept() {
+        Accepted::Took(link) => wakes(second, first, link),
+        Accepted::NotReady | Accepted::Failed => false,
+    }
+}
+
+/// Whether two workers share the ports, and wake one another.
+fn wake_one_another<R: Net + time::Clock + Copy + Drop + Send>(
+    rt: R,
+    alloc: Global,
+    ports: &Ports,
+    first: &mut NetKit<R>,
+) -> io::Result<bool> {
+    let to = address(alloc, b"127.0.0.1", ports.client_port()?)?;
+    let mut second = ports.kit(alloc, rt, 1)?;
+    Ok(shares(first, &mut second, &to))
+}
+
 #[test]
 fn shares_ports_and_wakes(rt: HostRuntime) -> Result<(), Fail> {
-    let alloc = rt.alloc();
-    let ports = Ports::open(alloc, &rt, 0, 0)?;
-    let mut first = ports.kit(alloc, rt, 0)?;
-    let mut second = ports.kit(alloc, rt, 1)?;
-    let to = Address {
-        host: Body::new(alloc, b"127.0.0.1")?,
-        port: ports.client_port()?,
-    };
-    let mut dial = first.dial();
-    assert_eq!(rt; connect(&mut dial, &to, first.idle()), Connected::Done);
-    second.idle().rest();
-    let Accepted::Took(link) = second.clients().accept() else {
-        panic!(rt; "nobody was there")
-    };
-    assert!(rt; wakes(&mut second, &mut first, link));
+    let ports = Ports::open(rt.alloc(), &rt, 0, 0)?;
+    let mut first = ports.kit(rt.alloc(), rt, 0)?;
+    assert!(rt; wake_one_another(rt, rt.alloc(), &ports, &mut first)?);
     Ok(())
 }

@@ -1,128 +1,150 @@
-use crate::bodies::fields_of;
-use gp_instruct::{Instruct, InstructFault, Mode, Subs, read_headers, read_link, write_last};
+use crate::bodies::response_of;
+use gp_escapes::push_escaped;
+use gp_instruct::{Instruct, InstructFault, Mode, Sub, read_headers, read_link, write_last};
 use gp_instruct_json::{JsonFault, is_instruct, read_body};
-use gp_plain::{Body, ItemId, Name, Response};
+use gp_plain::{Body, Field, ItemId, Name, Response};
 use std::alloc::{AllocError, Global};
 
-/// The head of an answer with these fields, `NAME:VALUE` in lines.
-fn head(alloc: Global, code: u16, fields: &[u8]) -> Result<Response, AllocError> {
-    Ok(Response {
-        version: 1,
-        code,
-        reason: Body::empty(alloc),
-        fields: fields_of(alloc, fields)?,
-    })
-}
-
-fn push_subs(text: &mut Vec<u8>, subs: &Subs) -> Result<(), AllocError> {
-    for sub in subs.as_slice() {
-        text.push(b' ')?;
-        text.extend_from_slice(sub.name.bytes())?;
-        if let Some(prev) = &sub.prev {
-            text.push(b'@')?;
-            text.extend_from_slice(prev.bytes())?;
-        }
+fn push_sub(text: &mut String, sub: &Sub) -> Result<(), AllocError> {
+    text.push(' ')?;
+    push_escaped(text, sub.name.bytes())?;
+    if let Some(prev) = &sub.prev {
+        text.push('@')?;
+        push_escaped(text, prev.bytes())?;
     }
     Ok(())
 }
 
-fn shown_fault(alloc: Global, fault: InstructFault) -> Result<Vec<u8>, AllocError> {
-    Ok(format!(in alloc; "{fault:?}")?.into_bytes())
+fn push_fault(text: &mut String, fault: &InstructFault) -> Result<(), AllocError> {
+    write!(text, "{fault:?}")
+}
+
+fn mode(mode: Option<Mode>) -> &'static str {
+    match mode {
+        Some(Mode::Response) => "response",
+        Some(Mode::Stream) => "stream",
+        None => "none",
+    }
 }
 
 /// Hold, channels, timeout, status and link.
-fn shown_instruct(alloc: Global, instruct: &Instruct) -> Result<Vec<u8>, AllocError> {
-    let mode: &[u8] = match instruct.mode {
-        Some(Mode::Response) => b"response",
-        Some(Mode::Stream) => b"stream",
-        None => b"none",
-    };
-    let mut text = mode.to_vec(alloc)?;
-    push_subs(&mut text, &instruct.subs)?;
-    let status = instruct.status.unwrap_or(0);
-    let numbers = format!(in alloc; " {} {status} ", instruct.timeout)?;
-    text.extend_from_slice(numbers.as_bytes())?;
-    match &instruct.link {
-        Some(link) => text.extend_from_slice(link.bytes())?,
-        None => text.extend_from_slice(b"none")?,
+fn push_instruct(text: &mut String, instruct: &Instruct) -> Result<(), AllocError> {
+    text.push_str(mode(instruct.mode))?;
+    for sub in instruct.subs.as_slice() {
+        push_sub(text, sub)?;
     }
-    Ok(text)
+    write!(
+        text,
+        " {} {} ",
+        instruct.timeout,
+        instruct.status.unwrap_or(0)
+    )?;
+    match &instruct.link {
+        Some(link) => push_escaped(text, link.bytes()),
+        None => text.push_str("none"),
+    }
 }
 
 /// The instruction of a head.
-pub fn headers(alloc: Global, fields: &[u8]) -> Result<Vec<u8>, AllocError> {
-    match read_headers(alloc, &head(alloc, 200, fields)?) {
-        Ok(Some(instruct)) => shown_instruct(alloc, &instruct),
-        Ok(None) => b"nothing".to_vec(alloc),
-        Err(fault) => shown_fault(alloc, fault),
+pub fn headers(alloc: Global, text: &mut String, fields: &[u8]) -> Result<(), AllocError> {
+    let head = response_of(alloc, 200, fields)?;
+    match &read_headers(alloc, &head) {
+        Ok(Some(instruct)) => push_instruct(text, instruct),
+        Ok(None) => text.push_str("nothing"),
+        Err(fault) => push_fault(text, fault),
     }
 }
 
 /// The link to what comes next, of a list of links.
-pub fn link(alloc: Global, value: &[u8]) -> Result<Vec<u8>, AllocError> {
-    match read_link(alloc, value) {
-        Ok(Some(link)) => Ok(link.into_vec()),
-        Ok(None) => b"none".to_vec(alloc),
-        Err(fault) => shown_fault(alloc, fault),
+pub fn link(alloc: Global, text: &mut String, value: &[u8]) -> Result<(), AllocError> {
+    match &read_link(alloc, value) {
+        Ok(Some(link)) => push_escaped(text, link.bytes()),
+        Ok(None) => text.push_str("none"),
+        Err(fault) => push_fault(text, fault),
     }
+}
+
+fn push_last(
+    alloc: Global,
+    text: &mut String,
+    channel: &Name,
+    id: &ItemId,
+) -> Result<(), AllocError> {
+    let value = write_last(alloc, channel, id)?;
+    push_escaped(text, value.bytes())
 }
 
 /// The field value that tells the last item of a channel.
-pub fn last(alloc: Global, channel: &str, id: &str) -> Result<Vec<u8>, AllocError> {
+pub fn last(alloc: Global, text: &mut String, channel: &str, id: &str) -> Result<(), AllocError> {
     match (
-        Name::new(alloc, channel.as_bytes()),
-        ItemId::new(alloc, id.as_bytes()),
+        &Name::new(alloc, channel.as_bytes()),
+        &ItemId::new(alloc, id.as_bytes()),
     ) {
-        (Ok(channel), Ok(id)) => Ok(write_last(alloc, &channel, &id)?.into_vec()),
-        _ => b"no name".to_vec(alloc),
+        (Ok(channel), Ok(id)) => push_last(alloc, text, channel, id),
+        _ => text.push_str("no name"),
     }
+}
+
+fn push_field(text: &mut String, field: &Field) -> Result<(), AllocError> {
+    text.push(' ')?;
+    push_escaped(text, field.name.bytes())?;
+    text.push('=')?;
+    push_escaped(text, field.value.bytes())
 }
 
 /// Code, reason, fields and body.
-fn push_answer(
-    alloc: Global,
-    text: &mut Vec<u8>,
+fn push_answer(text: &mut String, answer: &Response, body: &Body) -> Result<(), AllocError> {
+    write!(text, " | {} ", answer.code)?;
+    push_escaped(text, answer.reason.bytes())?;
+    for field in answer.fields.as_slice() {
+        push_field(text, field)?;
+    }
+    text.push_str(" | ")?;
+    push_escaped(text, body.bytes())
+}
+
+fn push_whole(
+    text: &mut String,
+    instruct: &Instruct,
     answer: &Response,
     body: &Body,
 ) -> Result<(), AllocError> {
-    let code = format!(in alloc; " | {} ", answer.code)?;
-    text.extend_from_slice(code.as_bytes())?;
-    text.extend_from_slice(answer.reason.bytes())?;
-    for field in answer.fields.as_slice() {
-        text.push(b' ')?;
-        text.extend_from_slice(field.name.bytes())?;
-        text.push(b'=')?;
-        text.extend_from_slice(field.value.bytes())?;
-    }
-    text.extend_from_slice(b" | ")?;
-    text.extend_from_slice(body.bytes())
+    push_instruct(text, instruct)?;
+    push_answer(text, answer, body)
 }
 
-fn named(alloc: Global, kind: &str, name: &Body) -> Result<Vec<u8>, AllocError> {
-    let mut text = kind.as_bytes().to_vec(alloc)?;
-    text.push(b' ')?;
-    text.extend_from_slice(name.bytes())?;
-    Ok(text)
+fn push_json_fault(text: &mut String, fault: &JsonFault) -> Result<(), AllocError> {
+    match fault {
+        JsonFault::NotJson => text.push_str("not json"),
+        JsonFault::Member(name) => {
+            text.push_str("member ")?;
+            push_escaped(text, name.bytes())
+        }
+        JsonFault::Base64(name) => {
+            text.push_str("base64 ")?;
+            push_escaped(text, name.bytes())
+        }
+        JsonFault::Instruct(fault) => push_fault(text, fault),
+        JsonFault::NoMemory => Err(AllocError),
+    }
 }
 
 /// The instruction, the answer and its body that a grip-instruct body has, under a head with these fields.
-pub fn body(alloc: Global, fields: &[u8], body: &[u8]) -> Result<Vec<u8>, AllocError> {
-    match read_body(alloc, &head(alloc, 202, fields)?, body) {
-        Ok((instruct, answer, content)) => {
-            let mut text = shown_instruct(alloc, &instruct)?;
-            push_answer(alloc, &mut text, &answer, &content)?;
-            Ok(text)
-        }
-        Err(JsonFault::NotJson) => b"not json".to_vec(alloc),
-        Err(JsonFault::Member(name)) => named(alloc, "member", &name),
-        Err(JsonFault::Base64(name)) => named(alloc, "base64", &name),
-        Err(JsonFault::Instruct(fault)) => shown_fault(alloc, fault),
-        Err(JsonFault::NoMemory) => Err(AllocError),
+pub fn body(
+    alloc: Global,
+    text: &mut String,
+    fields: &[u8],
+    body: &[u8],
+) -> Result<(), AllocError> {
+    let head = response_of(alloc, 202, fields)?;
+    match &read_body(alloc, &head, body) {
+        Ok((instruct, answer, content)) => push_whole(text, instruct, answer, content),
+        Err(fault) => push_json_fault(text, fault),
     }
 }
 
 /// Whether a head with these fields has a grip-instruct body.
-pub fn is_instruct_type(alloc: Global, fields: &[u8]) -> Result<Vec<u8>, AllocError> {
-    let found = is_instruct(&head(alloc, 200, fields)?);
-    Ok(format!(in alloc; "{found}")?.into_bytes())
+pub fn is_instruct_type(alloc: Global, text: &mut String, fields: &[u8]) -> Result<(), AllocError> {
+    let head = response_of(alloc, 200, fields)?;
+    write!(text, "{}", is_instruct(&head))
 }

@@ -1,36 +1,38 @@
+use gp_escapes::push_escaped;
 use gp_head::{HeadRead, read_request};
 use gp_plain::Request;
 use gp_ws::{UpgradeFault, accept_key, handshake, is_upgrade};
 use std::alloc::{AllocError, Global};
 
 /// The accept value of a key.
-pub fn accepted(alloc: Global, key: &[u8]) -> Result<Vec<u8>, AllocError> {
-    Ok(accept_key(alloc, key)?.into_vec())
+pub fn accepted(alloc: Global, text: &mut String, key: &[u8]) -> Result<(), AllocError> {
+    let accept = accept_key(alloc, key)?;
+    push_escaped(text, accept.bytes())
 }
 
-fn word(fault: UpgradeFault) -> &'static [u8] {
+fn word(fault: &UpgradeFault) -> &'static str {
     match fault {
-        UpgradeFault::Method => b"method",
-        UpgradeFault::Version => b"version",
-        UpgradeFault::Key => b"key",
-        UpgradeFault::NoMemory => b"no memory",
+        UpgradeFault::Method => "method",
+        UpgradeFault::Version => "version",
+        UpgradeFault::Key => "key",
+        UpgradeFault::NoMemory => "no memory",
     }
 }
 
-fn answered(alloc: Global, head: &Request) -> Result<Vec<u8>, AllocError> {
+fn push_answered(alloc: Global, text: &mut String, head: &Request) -> Result<(), AllocError> {
     if !is_upgrade(head) {
-        return b"no upgrade".to_vec(alloc);
+        return text.push_str("no upgrade");
     }
-    match handshake(alloc, head) {
-        Ok(accept) => Ok(accept.into_vec()),
-        Err(fault) => word(fault).to_vec(alloc),
+    match &handshake(alloc, head) {
+        Ok(accept) => push_escaped(text, accept.bytes()),
+        Err(fault) => text.push_str(word(fault)),
     }
 }
 
 /// What a request for a WebSocket is answered: the accept value, or why it is refused.
-pub fn shaken(alloc: Global, bytes: &[u8]) -> Result<Vec<u8>, AllocError> {
-    match read_request(alloc, bytes) {
-        HeadRead::Whole(head, _) => answered(alloc, &head),
-        _ => b"no head".to_vec(alloc),
+pub fn shaken(alloc: Global, text: &mut String, bytes: &[u8]) -> Result<(), AllocError> {
+    match &read_request(alloc, bytes) {
+        HeadRead::Whole(head, _) => push_answered(alloc, text, head),
+        _ => text.push_str("no head"),
     }
 }

@@ -17,7 +17,7 @@ mod json;
 mod routes;
 mod tokens;
 
-use gp_escapes::{escaped, unescaped};
+use gp_escapes::unescaped;
 use std::alloc::{AllocError, Global};
 use std::io;
 
@@ -26,9 +26,11 @@ fn cut(line: &str) -> (&str, &str) {
     line.split_once(' ').unwrap_or((line, ""))
 }
 
-/// The arguments of a row: its words, and its text from each of them on.
+/// A row: its kind, its words, and its text from each of them on.
 #[derive(Drop)]
 struct Row<'a> {
+    alloc: Global,
+    kind: &'a str,
     first: &'a str,
     second: &'a str,
     rest: &'a str,
@@ -38,10 +40,13 @@ struct Row<'a> {
 }
 
 impl<'a> Row<'a> {
-    fn read(alloc: Global, text: &'a str) -> Result<Row<'a>, AllocError> {
+    fn read(alloc: Global, line: &'a str) -> Result<Row<'a>, AllocError> {
+        let (kind, text) = cut(line);
         let (first, more) = cut(text);
         let (second, rest) = cut(more);
         Ok(Row {
+            alloc,
+            kind,
             first,
             second,
             rest,
@@ -52,122 +57,151 @@ impl<'a> Row<'a> {
     }
 }
 
-fn of_heads(alloc: Global, kind: &str, row: &Row<'_>) -> Result<Option<Vec<u8>>, AllocError> {
+fn of_heads(text: &mut String, row: &Row<'_>) -> Result<bool, AllocError> {
     let bytes = row.whole.as_slice();
-    let shown = match kind {
-        "request" => heads::request(alloc, bytes)?,
-        "request-by-bytes" => heads::answered_at(alloc, bytes)?,
-        "response" => heads::response(alloc, bytes)?,
-        "write-request" => heads::write_request_read(alloc, bytes)?,
-        "write-response" => heads::write_response_read(alloc, bytes)?,
-        "target" => heads::target(alloc, bytes)?,
-        _ => return Ok(None),
-    };
-    Ok(Some(shown))
+    match row.kind {
+        "request" => heads::request(row.alloc, text, bytes)?,
+        "request-by-bytes" => heads::answered_at(row.alloc, text, bytes)?,
+        "response" => heads::response(row.alloc, text, bytes)?,
+        "write-request" => heads::write_request_read(row.alloc, text, bytes)?,
+        "write-response" => heads::write_response_read(row.alloc, text, bytes)?,
+        "target" => heads::target(row.alloc, text, bytes)?,
+        _ => return Ok(false),
+    }
+    Ok(true)
 }
 
-fn of_bodies(alloc: Global, kind: &str, row: &Row<'_>) -> Result<Option<Vec<u8>>, AllocError> {
+fn of_bodies(text: &mut String, row: &Row<'_>) -> Result<bool, AllocError> {
     let bytes = row.behind_second.as_slice();
-    let shown = match kind {
-        "plan-request" => bodies::plan_of_request(alloc, row.first, row.behind_first.as_slice())?,
-        "plan-response" => bodies::plan_of_response(alloc, row.first, row.second, bytes)?,
-        "body" => bodies::body(alloc, row.first, row.second, bytes)?,
-        "pieces" => bodies::pieces(alloc, row.first, row.second, bytes)?,
-        "feed-all" => bodies::feed_all(alloc, row.first, row.second, bytes)?,
-        "chunk" => bodies::chunk(alloc, row.first)?,
-        _ => return Ok(None),
-    };
-    Ok(Some(shown))
+    match row.kind {
+        "plan-request" => bodies::plan_of_request(
+            row.alloc,
+            text,
+            row.first,
+            row.behind_first.as_slice(),
+        )?,
+        "plan-response" => bodies::plan_of_response(row.alloc, text, row.first, row.second, bytes)?,
+        "body" => bodies::body(row.alloc, text, row.first, row.second, bytes)?,
+        "pieces" => bodies::pieces(row.alloc, text, row.first, row.second, bytes)?,
+        "feed-all" => bodies::feed_all(row.alloc, text, row.first, row.second, bytes)?,
+        "chunk" => bodies::chunk(text, row.first)?,
+        _ => return Ok(false),
+    }
+    Ok(true)
 }
 
-fn of_answers(alloc: Global, kind: &str, row: &Row<'_>) -> Result<Option<Vec<u8>>, AllocError> {
-    let shown = match kind {
-        "answer" => { answers::answer(alloc, row.first, row.second, row.behind_second.as_slice())? }
-        "passed" => {
-            let (method, fields) = cut(row.rest);
-            let fields = unescaped(alloc, fields)?;
-            answers::passed(alloc, row.first, row.second, method, fields.as_slice())?
-        }
-        "framed" => answers::framed(alloc, row.first, row.second)?,
-        "refusal" => answers::refusal(alloc, row.first, row.second)?,
-        "published" => answers::published(alloc)?,
-        "routes" => routes::picked(alloc, row.first, row.second, row.behind_second.as_slice())?,
-        _ => return Ok(None),
-    };
-    Ok(Some(shown))
+/// `passed CODE SENT METHOD FIELDS`
+fn push_passed(text: &mut String, row: &Row<'_>) -> Result<(), AllocError> {
+    let (method, fields) = cut(row.rest);
+    let fields = unescaped(row.alloc, fields)?;
+    answers::passed(
+        row.alloc,
+        text,
+        row.first,
+        row.second,
+        method,
+        fields.as_slice(),
+    )
 }
 
-fn of_grip(alloc: Global, kind: &str, row: &Row<'_>) -> Result<Option<Vec<u8>>, AllocError> {
+fn of_answers(text: &mut String, row: &Row<'_>) -> Result<bool, AllocError> {
+    let bytes = row.behind_second.as_slice();
+    match row.kind {
+        "answer" => answers::answer(row.alloc, text, row.first, row.second, bytes)?,
+        "passed" => push_passed(text, row)?,
+        "framed" => answers::framed(text, row.first, row.second)?,
+        "refusal" => answers::refusal(text, row.first, row.second)?,
+        "published" => answers::published(text)?,
+        "routes" => routes::picked(row.alloc, text, row.first, row.second, bytes)?,
+        _ => return Ok(false),
+    }
+    Ok(true)
+}
+
+/// `grip-under FIELDS BODY`
+fn push_grip_under(text: &mut String, row: &Row<'_>) -> Result<(), AllocError> {
+    let fields = unescaped(row.alloc, row.first)?;
+    grip::body(
+        row.alloc,
+        text,
+        fields.as_slice(),
+        row.behind_first.as_slice(),
+    )
+}
+
+/// `held NOW FIELDS BODY`
+fn push_held(text: &mut String, row: &Row<'_>) -> Result<(), AllocError> {
+    let fields = unescaped(row.alloc, row.second)?;
+    let body = row.behind_second.as_slice();
+    holds::held(row.alloc, text, row.first, fields.as_slice(), body)
+}
+
+fn of_grip(text: &mut String, row: &Row<'_>) -> Result<bool, AllocError> {
     let bytes = row.whole.as_slice();
-    let shown = match kind {
-        "headers" => grip::headers(alloc, bytes)?,
-        "link" => grip::link(alloc, bytes)?,
-        "last" => grip::last(alloc, row.first, row.second)?,
-        "grip" => grip::body(alloc, &[], bytes)?,
-        "grip-under" => {
-            let fields = unescaped(alloc, row.first)?;
-            grip::body(alloc, fields.as_slice(), row.behind_first.as_slice())?
-        }
-        "held" => {
-            let fields = unescaped(alloc, row.second)?;
-            holds::held(
-                alloc,
-                row.first,
-                fields.as_slice(),
-                row.behind_second.as_slice(),
-            )?
-        }
-        "instruct-type" => grip::is_instruct_type(alloc, bytes)?,
-        _ => return Ok(None),
-    };
-    Ok(Some(shown))
+    match row.kind {
+        "headers" => grip::headers(row.alloc, text, bytes)?,
+        "link" => grip::link(row.alloc, text, bytes)?,
+        "last" => grip::last(row.alloc, text, row.first, row.second)?,
+        "grip" => grip::body(row.alloc, text, &[], bytes)?,
+        "grip-under" => push_grip_under(text, row)?,
+        "held" => push_held(text, row)?,
+        "instruct-type" => grip::is_instruct_type(row.alloc, text, bytes)?,
+        _ => return Ok(false),
+    }
+    Ok(true)
 }
 
-fn of_others(alloc: Global, kind: &str, row: &Row<'_>) -> Result<Option<Vec<u8>>, AllocError> {
-    let shown = match kind {
-        "part" => json::part(alloc, row.whole.as_slice())?,
-        "items" => items::items(alloc, row.whole.as_slice())?,
-        "hmac" => {
-            let key = unescaped(alloc, row.first)?;
-            tokens::mac(alloc, key.as_slice(), row.behind_first.as_slice())?
-        }
-        "accept-key" => handshakes::accepted(alloc, row.whole.as_slice())?,
-        "handshake" => handshakes::shaken(alloc, row.whole.as_slice())?,
-        "token" => tokens::written(alloc, row.first, row.second, row.rest)?,
-        "check" => tokens::checked(alloc, row.first, row.second, row.rest)?,
-        _ => return Ok(None),
-    };
-    Ok(Some(shown))
+/// `hmac KEY TEXT`
+fn push_mac(text: &mut String, row: &Row<'_>) -> Result<(), AllocError> {
+    let key = unescaped(row.alloc, row.first)?;
+    tokens::mac(text, key.as_slice(), row.behind_first.as_slice())
 }
 
-/// What the reader of a kind answers, or none where there is no such kind.
-fn answer(alloc: Global, kind: &str, rest: &str) -> Result<Option<Vec<u8>>, AllocError> {
-    let row = Row::read(alloc, rest)?;
-    if let Some(shown) = of_heads(alloc, kind, &row)? {
-        return Ok(Some(shown));
+fn of_others(text: &mut String, row: &Row<'_>) -> Result<bool, AllocError> {
+    let bytes = row.whole.as_slice();
+    match row.kind {
+        "part" => json::part(row.alloc, text, bytes)?,
+        "items" => items::items(row.alloc, text, bytes)?,
+        "hmac" => push_mac(text, row)?,
+        "accept-key" => handshakes::accepted(row.alloc, text, bytes)?,
+        "handshake" => handshakes::shaken(row.alloc, text, bytes)?,
+        "token" => tokens::written(row.alloc, text, row.first, row.second, row.rest)?,
+        "check" => tokens::checked(row.alloc, text, row.first, row.second, row.rest)?,
+        _ => return Ok(false),
     }
-    if let Some(shown) = of_bodies(alloc, kind, &row)? {
-        return Ok(Some(shown));
+    Ok(true)
+}
+
+/// Adds what the reader of a kind answers. It says whether there is such a kind.
+fn push_answer(text: &mut String, row: &Row<'_>) -> Result<bool, AllocError> {
+    Ok(
+        of_heads(text, row)?
+            || of_bodies(text, row)?
+            || of_answers(text, row)?
+            || of_grip(text, row)?
+            || of_others(text, row)?,
+    )
+}
+
+/// The line with the answer of a row, or an empty text where the line is no row.
+fn answer(alloc: Global, line: &str) -> Result<String, AllocError> {
+    let row = Row::read(alloc, line)?;
+    let mut text = String::from_str(alloc, "= ")?;
+    if !push_answer(&mut text, &row)? {
+        text.clear();
     }
-    if let Some(shown) = of_answers(alloc, kind, &row)? {
-        return Ok(Some(shown));
-    }
-    if let Some(shown) = of_grip(alloc, kind, &row)? {
-        return Ok(Some(shown));
-    }
-    of_others(alloc, kind, &row)
+    Ok(text)
 }
 
 fn main(rt: HostRuntime) -> io::Result<()> {
-    let alloc = rt.alloc();
-    for line in rt.lines(alloc) {
+    for line in rt.lines(rt.alloc()) {
         let line = line?;
         println!(rt; "{line}")?;
-        let (kind, rest) = cut(line.as_str());
-        match answer(alloc, kind, rest)? {
-            Some(shown) => println!(rt; "= {}", escaped(alloc, shown.as_slice())?)?,
-            None if line.is_empty() || line.starts_with("#") => {}
-            None => println!(rt; "not a kind of row")?,
+        let text = answer(rt.alloc(), line.as_str())?;
+        if !text.is_empty() {
+            println!(rt; "{text}")?;
+        } else if !line.is_empty() && !line.starts_with("#") {
+            println!(rt; "not a kind of row")?;
         }
     }
     Ok(())

@@ -1,35 +1,48 @@
-use gp_sig::{SigFault, check, hmac, token};
+use gp_escapes::push_escaped;
+use gp_sig::{Claims, SigFault, check, hmac, token};
 use std::alloc::{AllocError, Global};
 
 /// The authentication code, in hexadecimal digits.
-pub fn mac(alloc: Global, key: &[u8], text: &[u8]) -> Result<Vec<u8>, AllocError> {
-    let mut shown = String::new(alloc);
-    for byte in hmac(key, text) {
-        shown.push_str(format!(in alloc; "{byte:02x}")?.as_str())?;
+pub fn mac(text: &mut String, key: &[u8], bytes: &[u8]) -> Result<(), AllocError> {
+    for byte in hmac(key, bytes) {
+        write!(text, "{byte:02x}")?;
     }
-    Ok(shown.into_bytes())
+    Ok(())
 }
 
 /// The token of a key, an issuer and an end.
-pub fn written(alloc: Global, key: &str, issuer: &str, end: &str) -> Result<Vec<u8>, AllocError> {
+pub fn written(
+    alloc: Global,
+    text: &mut String,
+    key: &str,
+    issuer: &str,
+    end: &str,
+) -> Result<(), AllocError> {
     let end = end.parse::<u64>().unwrap_or(0);
     if issuer != "pushpin" {
-        return b"another issuer".to_vec(alloc);
+        return text.push_str("another issuer");
     }
-    Ok(token(alloc, key.as_bytes(), b"pushpin", end)?.into_vec())
+    let token = token(alloc, key.as_bytes(), b"pushpin", end)?;
+    push_escaped(text, token.bytes())
+}
+
+fn push_claims(text: &mut String, claims: &Claims) -> Result<(), AllocError> {
+    push_escaped(text, claims.iss.bytes())?;
+    write!(text, " {}", claims.exp)
 }
 
 /// The issuer and the end of a token at a moment, or why it doesn't count.
-pub fn checked(alloc: Global, key: &str, now: &str, text: &str) -> Result<Vec<u8>, AllocError> {
+pub fn checked(
+    alloc: Global,
+    text: &mut String,
+    key: &str,
+    now: &str,
+    token: &str,
+) -> Result<(), AllocError> {
     let now = now.parse::<u64>().unwrap_or(0);
-    match check(alloc, key.as_bytes(), text.as_bytes(), now) {
-        Ok(claims) => {
-            let mut shown = claims.iss.bytes().to_vec(alloc)?;
-            let end = format!(in alloc; " {}", claims.exp)?;
-            shown.extend_from_slice(end.as_bytes())?;
-            Ok(shown)
-        }
+    match &check(alloc, key.as_bytes(), token.as_bytes(), now) {
+        Ok(claims) => push_claims(text, claims),
         Err(SigFault::NoMemory) => Err(AllocError),
-        Err(fault) => Ok(format!(in alloc; "{fault:?}")?.into_bytes()),
+        Err(fault) => write!(text, "{fault:?}"),
     }
 }

@@ -87,18 +87,20 @@ fn agrees(kit: &MemKit, report: &WorkerReport) -> bool {
     kit.ended(count).is_none() && (count == 0 || kit.ended(count - 1).is_some())
 }
 
-/// What workers told, in words.
-fn told(
-    alloc: Global,
-    run: &Run,
+/// Adds how many sessions were reported with each claim.
+fn push_claims(text: &mut String, limit: u32, reports: &[WorkerReport]) -> Result<(), AllocError> {
+    for claim in 0..limit {
+        write!(text, "claim {claim}: {}, ", with_claim(reports, claim))?;
+    }
+    Ok(())
+}
+
+/// Adds how many workers agree with their kits, and what went wrong.
+fn push_workers(
+    text: &mut String,
     kits: &[MemKit],
     reports: &[WorkerReport],
-) -> Result<String, AllocError> {
-    let mut text = String::new(alloc);
-    for claim in 0..run.limit {
-        let count = with_claim(reports, claim);
-        text.push_str(format!(in alloc; "claim {claim}: {count}, ")?.as_str())?;
-    }
+) -> Result<(), AllocError> {
     let mut failed = 0u64;
     let mut wanting = 0u64;
     let mut agreeing = 0u64;
@@ -113,9 +115,26 @@ fn told(
             agreeing = agreeing.saturating_add(1);
         }
     }
-    text.push_str(format!(in alloc;
+    write!(
+        text,
         "{agreeing} agree, {failed} failed, {wanting} without memory"
-    )?.as_str())?;
+    )
+}
+
+/// What workers told, in words.
+fn told(
+    alloc: Global,
+    run: &Run,
+    gate: &PairGate,
+    kits: &[MemKit],
+    reports: &[WorkerReport],
+) -> Result<String, AllocError> {
+    let mut text = String::new(alloc);
+    push_claims(&mut text, run.limit, reports)?;
+    push_workers(&mut text, kits, reports)?;
+    if run.turns > 0 {
+        write!(text, ", late {}", gate.late())?;
+    }
     Ok(text)
 }
 
@@ -136,11 +155,7 @@ pub fn play<R: Threads + Wait + Sync>(
     let reports = work::<R, MemKit, Quick>(
         rt, alloc, &mut kits, &hub, &mut pass, &maker, run.limit,
     )?;
-    let mut text = told(alloc, run, kits.as_slice(), reports.as_slice())?;
-    if run.turns > 0 {
-        let late = gate.late();
-        text.push_str(format!(in alloc; ", late {late}")?.as_str())?;
-    }
+    let text = told(alloc, run, &gate, kits.as_slice(), reports.as_slice())?;
     drop(hub.close(pass));
     Ok(text)
 }

@@ -1,6 +1,6 @@
 use crate::client::forwarded;
-use crate::shown::{is_last, show};
-use gp_escapes::{escaped, unescaped};
+use crate::shown::{is_last, push_progress};
+use gp_escapes::{push_escaped, unescaped};
 use gp_exchange::Exchange;
 use gp_outside::{Answers, MemDial, Turn, Turns};
 use gp_plain::{Address, Body};
@@ -12,21 +12,32 @@ const ROOM: usize = 10_000;
 /// The most polls of a case.
 const POLLS: usize = 2_000;
 
-/// One talk: the request, the origin's answer, and what each call on the dialer does in turn.
+/// The request of a case that says none.
+const SHORT: &str = "GET / HTTP/1.1\\r\\n\\r\\n";
+
+/// The kinds of the lines of a case: the request, the origin's answer, and what each call on the dialer does in turn.
 ///
-/// Its lines are `request TEXT`, without which it is a short GET, or `client TEXT`, the head of a client's request that is forwarded; `answer TEXT`, whose texts are joined; `method WORD`, without which it
+/// They are `request TEXT`, without which it is a short GET, or `client TEXT`, the head of a client's request that is forwarded; `answer TEXT`, whose texts are joined; `method WORD`, without which it
 /// is GET; `limit NUMBER`, without which there is none; and `connects TURN`, `reads TURN` and `writes TURN`, with a number of bytes, `wait`
 /// or `fail`, and behind it how often, which is once where it isn't said.
-#[derive(Drop)]
-pub struct Case {
-    alloc: Global,
-    request: Vec<u8>,
-    answer: Vec<u8>,
-    method: Vec<u8>,
-    limit: u64,
-    connects: Vec<Turn>,
-    reads: Vec<Turn>,
-    writes: Vec<Turn>,
+const KINDS: [&str; 8] = [
+    "request", "client", "answer", "method", "limit", "connects", "reads", "writes",
+];
+
+/// The first word of a line, and what stands behind its space.
+fn cut(line: &str) -> (&str, &str) {
+    line.split_once(' ').unwrap_or((line, ""))
+}
+
+/// What stands behind a kind in the first of its lines.
+fn first<'a>(lines: &'a str, kind: &str) -> Option<&'a str> {
+    for line in lines.lines() {
+        let (word, rest) = cut(line);
+        if word == kind {
+            return Some(rest);
+        }
+    }
+    None
 }
 
 fn turn(word: &str) -> Turn {
@@ -46,90 +57,138 @@ fn push_turns(turns: &mut Vec<Turn>, text: &str) -> Result<(), AllocError> {
     Ok(())
 }
 
-impl Case {
-    /// A short GET without an answer, over a dialer that is always ready.
-    pub fn new(alloc: Global) -> Result<Case, AllocError> {
-        Ok(Case {
-            alloc,
-            request: unescaped(alloc, "GET / HTTP/1.1\\r\\n\\r\\n")?,
-            answer: Vec::new(alloc),
-            method: unescaped(alloc, "GET")?,
-            limit: u64::MAX,
-            connects: Vec::new(alloc),
-            reads: Vec::new(alloc),
-            writes: Vec::new(alloc),
-        })
-    }
-
-    /// Reads one line of the case. It says whether it is one.
-    pub fn add(&mut self, line: &str) -> Result<bool, AllocError> {
-        let (kind, rest) = line.split_once(' ').unwrap_or((line, ""));
-        let alloc = self.alloc;
-        match kind {
-            "request" => self.request = unescaped(alloc, rest)?,
-            "client" => self.request = forwarded(alloc, unescaped(alloc, rest)?.as_slice())?,
-            "answer" => self
-                .answer
-                .extend_from_slice(unescaped(alloc, rest)?.as_slice())?,
-            "method" => self.method = unescaped(alloc, rest)?,
-            "limit" => self.limit = rest.parse::<u64>().unwrap_or(0),
-            "connects" => push_turns(&mut self.connects, rest)?,
-            "reads" => push_turns(&mut self.reads, rest)?,
-            "writes" => push_turns(&mut self.writes, rest)?,
-            _ => return Ok(false),
+/// The turns of the lines of a kind.
+fn turns(alloc: Global, lines: &str, kind: &str) -> Result<Turns, AllocError> {
+    let mut turns = Vec::new(alloc);
+    for line in lines.lines() {
+        let (word, rest) = cut(line);
+        if word == kind {
+            push_turns(&mut turns, rest)?;
         }
-        Ok(true)
     }
+    Ok(Turns::from_vec(turns))
+}
 
-    /// The dialer, and the exchange.
-    fn parts(self) -> Result<(MemDial, Exchange), AllocError> {
-        let alloc = self.alloc;
-        let mut answers = Vec::new(alloc);
-        answers.push(Body::from_vec(self.answer))?;
-        let connects = Turns::from_vec(self.connects);
-        let reads = Turns::from_vec(self.reads);
-        let writes = Turns::from_vec(self.writes);
-        let dial = MemDial::new(
-            alloc,
-            Answers::from_vec(answers),
-            ROOM,
-            connects,
-            reads,
-            writes,
-        )?;
-        let to = Address {
-            host: Body::new(alloc, b"origin")?,
-            port: 80,
-        };
-        let request = Body::from_vec(self.request);
-        let method = Body::from_vec(self.method);
-        let exchange = Exchange::new(alloc, to, request, method, self.limit);
-        Ok((dial, exchange))
+/// What the origin answers.
+fn answer(alloc: Global, lines: &str) -> Result<Body, AllocError> {
+    let mut answer = Vec::new(alloc);
+    for line in lines.lines() {
+        let (word, rest) = cut(line);
+        if word == "answer" {
+            let part = unescaped(alloc, rest)?;
+            answer.extend_from_slice(part.as_slice())?;
+        }
     }
+    Ok(Body::from_vec(answer))
+}
 
-    /// The answers of all polls, the last of them twice, and what was sent.
-    pub fn play(self) -> Result<String, AllocError> {
-        let alloc = self.alloc;
-        let (mut dial, mut exchange) = self.parts()?;
-        let mut text = String::new(alloc);
-        let mut lasts: u8 = 0;
-        for _poll in 0..POLLS {
-            let progress = exchange.poll(&mut dial);
-            show(alloc, &mut text, &progress)?;
-            if is_last(&progress) {
-                lasts = lasts.saturating_add(1);
-            }
-            if lasts == 2 {
-                break;
-            }
+fn answers(alloc: Global, lines: &str) -> Result<Answers, AllocError> {
+    let mut answers = Vec::new(alloc);
+    answers.push(answer(alloc, lines)?)?;
+    Ok(Answers::from_vec(answers))
+}
+
+fn dial(alloc: Global, lines: &str) -> Result<MemDial, AllocError> {
+    let connects = turns(alloc, lines, "connects")?;
+    let reads = turns(alloc, lines, "reads")?;
+    let writes = turns(alloc, lines, "writes")?;
+    MemDial::new(alloc, answers(alloc, lines)?, ROOM, connects, reads, writes)
+}
+
+/// The request that is sent.
+fn request(alloc: Global, lines: &str) -> Result<Vec<u8>, AllocError> {
+    match first(lines, "client") {
+        Some(client) => {
+            let client = unescaped(alloc, client)?;
+            forwarded(alloc, client.as_slice())
         }
-        match dial.sent(0) {
-            Some(bytes) => text.push_str(format!(in alloc;
-                "sent {}\n",
-                escaped(alloc, bytes)?
-            )?.as_str())?,
-            None => text.push_str("no talk\n")?,
-        }
-        Ok(text)
+        None => unescaped(alloc, first(lines, "request").unwrap_or(SHORT)),
     }
+}
+
+fn origin(alloc: Global) -> Result<Address, AllocError> {
+    Ok(Address {
+        host: Body::new(alloc, b"origin")?,
+        port: 80,
+    })
+}
+
+fn exchange(alloc: Global, lines: &str) -> Result<Exchange, AllocError> {
+    let to = origin(alloc)?;
+    let request = Body::from_vec(request(alloc, lines)?);
+    let method = Body::from_vec(unescaped(alloc, first(lines, "method").unwrap_or("GET"))?);
+    let limit = match first(lines, "limit") {
+        Some(limit) => limit.parse::<u64>().unwrap_or(0),
+        None => u64::MAX,
+    };
+    Ok(Exchange::new(alloc, to, request, method, limit))
+}
+
+/// Adds what a poll gave. It says whether the exchange is over.
+fn push_poll(
+    text: &mut String,
+    exchange: &mut Exchange,
+    dial: &mut MemDial,
+) -> Result<bool, AllocError> {
+    let progress = exchange.poll(dial);
+    push_progress(text, &progress)?;
+    Ok(is_last(&progress))
+}
+
+/// Adds the answers of all polls, the last of them twice.
+fn push_polls(
+    text: &mut String,
+    exchange: &mut Exchange,
+    dial: &mut MemDial,
+) -> Result<(), AllocError> {
+    let mut lasts: u8 = 0;
+    for _poll in 0..POLLS {
+        if push_poll(text, exchange, dial)? {
+            lasts = lasts.saturating_add(1);
+        }
+        if lasts == 2 {
+            break;
+        }
+    }
+    Ok(())
+}
+
+fn push_talk(
+    alloc: Global,
+    text: &mut String,
+    dial: &mut MemDial,
+    lines: &str,
+) -> Result<(), AllocError> {
+    let mut exchange = exchange(alloc, lines)?;
+    push_polls(text, &mut exchange, dial)
+}
+
+fn push_sent(text: &mut String, sent: Option<&[u8]>) -> Result<(), AllocError> {
+    match sent {
+        Some(bytes) => {
+            text.push_str("sent ")?;
+            push_escaped(text, bytes)?;
+            text.push('\n')
+        }
+        None => text.push_str("no talk\n"),
+    }
+}
+
+/// Adds the lines that are of no kind.
+fn push_others(text: &mut String, lines: &str) -> Result<(), AllocError> {
+    for line in lines.lines() {
+        let (word, _) = cut(line);
+        if !KINDS.contains(&word) {
+            writeln!(text, "not a line of a case: {line}")?;
+        }
+    }
+    Ok(())
+}
+
+/// Adds the answers of all polls of a case, and what was sent.
+pub fn push_case(alloc: Global, text: &mut String, lines: &str) -> Result<(), AllocError> {
+    push_others(text, lines)?;
+    let mut dial = dial(alloc, lines)?;
+    push_talk(alloc, text, &mut dial, lines)?;
+    push_sent(text, dial.sent(0))
 }

@@ -1,8 +1,8 @@
 use gp_body::{BodyFault, FedFault};
-use gp_escapes::escaped;
+use gp_escapes::push_escaped;
 use gp_exchange::{ExchangeFault, Progress};
-use gp_plain::Response;
-use std::alloc::{AllocError, Global};
+use gp_plain::{Field, Response};
+use std::alloc::AllocError;
 
 /// Whether an exchange is over with this answer.
 pub fn is_last(progress: &Progress) -> bool {
@@ -16,14 +16,19 @@ pub fn is_last(progress: &Progress) -> bool {
     }
 }
 
+fn push_field(text: &mut String, field: &Field) -> Result<(), AllocError> {
+    text.push(' ')?;
+    push_escaped(text, field.name.bytes())?;
+    text.push('=')?;
+    push_escaped(text, field.value.bytes())
+}
+
 /// The code, the reason and the fields.
-fn show_head(alloc: Global, text: &mut String, head: &Response) -> Result<(), AllocError> {
-    let reason = escaped(alloc, head.reason.bytes())?;
-    text.push_str(format!(in alloc; "head {} {reason}", head.code)?.as_str())?;
+fn push_head(text: &mut String, head: &Response) -> Result<(), AllocError> {
+    write!(text, "head {} ", head.code)?;
+    push_escaped(text, head.reason.bytes())?;
     for field in head.fields.as_slice() {
-        let name = escaped(alloc, field.name.bytes())?;
-        let value = escaped(alloc, field.value.bytes())?;
-        text.push_str(format!(in alloc; " {name}={value}")?.as_str())?;
+        push_field(text, field)?;
     }
     Ok(())
 }
@@ -37,31 +42,29 @@ fn plan_fault(fault: BodyFault) -> &'static str {
     }
 }
 
-fn show_fault(alloc: Global, fault: ExchangeFault) -> Result<String, AllocError> {
+fn push_fault(text: &mut String, fault: ExchangeFault) -> Result<(), AllocError> {
     match fault {
-        ExchangeFault::Dial => String::from_str(alloc, "fault dial"),
-        ExchangeFault::Head => String::from_str(alloc, "fault head"),
-        ExchangeFault::Interim => String::from_str(alloc, "fault interim"),
-        ExchangeFault::Plan(fault) => format!(in alloc; "fault plan {}", plan_fault(fault)),
-        ExchangeFault::Body(FedFault::Chunk(place)) => format!(in alloc; "fault chunk {place}"),
-        ExchangeFault::Body(FedFault::TooLong(limit)) => format!(in alloc;
-            "fault too long {limit}"
-        ),
-        ExchangeFault::Body(FedFault::Cut(count)) => format!(in alloc; "fault cut {count}"),
+        ExchangeFault::Dial => text.push_str("fault dial"),
+        ExchangeFault::Head => text.push_str("fault head"),
+        ExchangeFault::Interim => text.push_str("fault interim"),
+        ExchangeFault::Plan(fault) => write!(text, "fault plan {}", plan_fault(fault)),
+        ExchangeFault::Body(FedFault::Chunk(place)) => write!(text, "fault chunk {place}"),
+        ExchangeFault::Body(FedFault::TooLong(limit)) => write!(text, "fault too long {limit}"),
+        ExchangeFault::Body(FedFault::Cut(count)) => write!(text, "fault cut {count}"),
     }
 }
 
 /// Adds a line that says what a poll gave.
-pub fn show(alloc: Global, text: &mut String, progress: &Progress) -> Result<(), AllocError> {
+pub fn push_progress(text: &mut String, progress: &Progress) -> Result<(), AllocError> {
     match progress {
-        Progress::Head(head) => show_head(alloc, text, head)?,
+        Progress::Head(head) => push_head(text, head)?,
         Progress::Part(part) => {
-            let shown = escaped(alloc, part.bytes())?;
-            text.push_str(format!(in alloc; "part {shown}")?.as_str())?;
+            text.push_str("part ")?;
+            push_escaped(text, part.bytes())?;
         }
         Progress::End => text.push_str("end")?,
         Progress::NotReady => text.push_str("not ready")?,
-        Progress::Fault(fault) => text.push_str(show_fault(alloc, *fault)?.as_str())?,
+        Progress::Fault(fault) => push_fault(text, *fault)?,
         Progress::NoMemory => text.push_str("no memory")?,
     }
     text.push('\n')
