@@ -1,8 +1,10 @@
+ghost use Rattle.std.specs.Prelude.{◌≡◌};
+
 use crate::http::{Client, Origin, visit_http};
-use crate::shown::{show_taken, show_visit};
-use crate::visit::{ROOM, attach_news, enter, fill, take};
+use crate::shown::show_taken;
+use crate::visit::{ROOM, attach_news, fill, publish_over, take};
 use gp_escapes::unescaped;
-use gp_hub::Hub;
+use gp_hub::{Hub, HubPass};
 use gp_outside::{MemLink, Turn, Turns};
 use gp_plain::Body;
 use std::alloc::{AllocError, Global};
@@ -126,43 +128,80 @@ impl Case {
         MemLink::new(self.alloc, input, ROOM, reads, writes)
     }
 
-    /// What the visit of a client of HTTP gives.
-    fn play_http(self) -> Result<String, AllocError> {
+    /// Adds what the visit of a client of HTTP gives.
+    fn play_http(
+        &mut self,
+        hub: &Hub,
+        first: &mut HubPass,
+        text: &mut String,
+    ) -> Result<(), AllocError>
+        requires { first.old.turn ≡ hub.now }
+        ensures { first.new.turn ≡ first.old.turn }
+    {
         let alloc = self.alloc;
-        let link = self.link()?;
-        let (hub, mut first) = Hub::new(alloc)?;
         if self.crowd {
-            fill(alloc, &hub, &mut first)?;
+            fill(alloc, hub, first)?;
         }
         let client = Client {
-            link,
-            origin: self.origin,
-            publishers: self.publishers,
+            link: self.link()?,
+            origin: mem::replace(&mut self.origin, Origin::new(alloc)),
+            publishers: mem::replace(&mut self.publishers, Vec::new(alloc)),
         };
-        visit_http(alloc, &hub, &mut first, client)
+        visit_http(alloc, hub, first, client, text)
     }
 
-    /// What each visit gives, and what the hold takes behind it.
-    pub fn play(self) -> Result<String, AllocError> {
-        if self.http {
-            return self.play_http();
+    /// Adds what the visit of a publisher gives, and what a hold takes behind it.
+    fn play_visit(
+        &self,
+        hub: &Hub,
+        first: &mut HubPass,
+        hold: Option<u64>,
+        text: &mut String,
+    ) -> Result<(), AllocError>
+        requires { first.old.turn ≡ hub.now }
+        ensures { first.new.turn ≡ first.old.turn }
+    {
+        publish_over(self.alloc, hub, first, self.link()?, text)?;
+        if let Some(number) = hold {
+            let taken = take(hub, first, number);
+            let shown = show_taken(self.alloc, text, taken.as_ref());
+            drop(taken);
+            shown?;
         }
-        let alloc = self.alloc;
-        let mut text = String::new(alloc);
-        let (hub, mut first) = Hub::new(alloc)?;
+        Ok(())
+    }
+
+    /// Adds what each visit of a publisher gives, and what the hold takes behind it.
+    fn play_publisher(
+        &self,
+        hub: &Hub,
+        first: &mut HubPass,
+        text: &mut String,
+    ) -> Result<(), AllocError>
+        requires { first.old.turn ≡ hub.now }
+        ensures { first.new.turn ≡ first.old.turn }
+    {
         let hold = if self.hold {
-            attach_news(alloc, &hub, &mut first)?
+            attach_news(self.alloc, hub, first)?
         } else {
             None
         };
         for _visit in 0..self.visits {
-            let visit = enter(alloc, &hub, &mut first, self.link()?)?;
-            show_visit(alloc, &mut text, visit.as_ref())?;
-            if let Some(number) = hold {
-                let taken = take(&hub, &mut first, number);
-                show_taken(alloc, &mut text, taken.as_ref())?;
-            }
+            self.play_visit(hub, first, hold, text)?;
         }
-        Ok(text)
+        Ok(())
+    }
+
+    /// Adds what the case gives.
+    pub fn play(&mut self, text: &mut String) -> Result<(), AllocError> {
+        let (hub, mut first) = Hub::new(self.alloc)?;
+        let played = if self.http {
+            self.play_http(&hub, &mut first, text)
+        } else {
+            self.play_publisher(&hub, &mut first, text)
+        };
+        drop(first);
+        drop(hub);
+        played
     }
 }

@@ -3,7 +3,7 @@ ghost use Rattle.gp_session.specs.Seats.{IsFresh};
 ghost use Rattle.gp_session_http.specs.Polls.{HasEnded};
 
 use crate::visit::publish;
-use gp_escapes::escaped;
+use gp_escapes::{escaped, push_escaped};
 use gp_hub::{Hub, HubPass, Outcome, Polled, Session};
 use gp_outside::{Answers, Clock, Dial, Link, MemClock, MemDial, MemLink, Times, Turn, Turns};
 use gp_plain::{Body, HoldReport, Signer};
@@ -114,8 +114,10 @@ fn stay<'h>(
     Ok(())
 }
 
-fn push(text: &mut String, line: String) -> Result<(), AllocError> {
-    text.push_str(line.as_str())?;
+/// Adds a line of a word and of bytes.
+fn push_bytes(text: &mut String, word: &str, bytes: &[u8]) -> Result<(), AllocError> {
+    write!(text, "{word} ")?;
+    push_escaped(text, bytes)?;
     text.push('\n')
 }
 
@@ -123,14 +125,13 @@ fn push(text: &mut String, line: String) -> Result<(), AllocError> {
 const TALKS: usize = 10;
 
 /// What was sent to the origin in each talk.
-fn show_asked(alloc: Global, text: &mut String, dial: &MemDial) -> Result<(), AllocError> {
+fn show_asked(text: &mut String, dial: &MemDial) -> Result<(), AllocError> {
     if dial.sent(0).is_none() {
-        return push(text, format!(in alloc; "asked nothing")?);
+        return text.push_str("asked nothing\n");
     }
     for talk in 0..TALKS {
         if let Some(bytes) = dial.sent(talk) {
-            let asked = escaped(alloc, bytes)?;
-            push(text, format!(in alloc; "asked {asked}")?)?;
+            push_bytes(text, "asked", bytes)?;
         }
     }
     Ok(())
@@ -143,9 +144,9 @@ fn show_report(alloc: Global, text: &mut String, report: &HoldReport) -> Result<
         None => String::from_str(alloc, "nowhere")?,
     };
     let (kind, pieces, bytes, end) = (report.kind, report.pieces, report.bytes, report.end);
-    push(
+    writeln!(
         text,
-        format!(in alloc; "held {kind:?} pieces {pieces} bytes {bytes} at {position} {end:?}")?,
+        "held {kind:?} pieces {pieces} bytes {bytes} at {position} {end:?}"
     )
 }
 
@@ -157,23 +158,22 @@ fn show_outcome(alloc: Global, text: &mut String, outcome: &Outcome) -> Result<(
         }
     }
     let (end, why) = (outcome.end, outcome.why);
-    push(text, format!(in alloc; "{end:?} {why:?}")?)
+    writeln!(text, "{end:?} {why:?}")
 }
 
 /// What was sent to the client and in the first talk, and how the session ended.
 fn show(
     alloc: Global,
     text: &mut String,
-    outcome: Option<Outcome>,
-    parts: Option<(MemLink, MemDial, MemClock)>,
+    outcome: Option<&Outcome>,
+    parts: Option<&(MemLink, MemDial, MemClock)>,
 ) -> Result<(), AllocError> {
     let (Some(outcome), Some((link, dial, _clock))) = (outcome, parts) else {
-        return push(text, format!(in alloc; "goes on")?);
+        return text.push_str("goes on\n");
     };
-    show_asked(alloc, text, &dial)?;
-    let sent = escaped(alloc, link.sent())?;
-    push(text, format!(in alloc; "sent {sent}")?)?;
-    show_outcome(alloc, text, &outcome)
+    show_asked(text, dial)?;
+    push_bytes(text, "sent", link.sent())?;
+    show_outcome(alloc, text, outcome)
 }
 
 /// A client of HTTP: its link, its origin, and what each publisher sends that comes in turn while it is there.
@@ -190,12 +190,14 @@ pub fn visit_http(
     hub: &Hub,
     first: &mut HubPass,
     client: Client,
-) -> Result<String, AllocError>
+    text: &mut String,
+) -> Result<(), AllocError>
     requires { first.old.turn ≡ hub.now }
     ensures { first.new.turn ≡ first.old.turn }
 {
     if first.spare() <= 1 {
-        return format!(in alloc; "no number is left\n");
+        drop(client);
+        return text.push_str("no number is left\n");
     }
     let Client {
         link,
@@ -203,7 +205,7 @@ pub fn visit_http(
         publishers,
     } = client;
     let Ok(routes) = read_routes(alloc, origin.routes.as_slice()) else {
-        return format!(in alloc; "no routes\n");
+        return text.push_str("no routes\n");
     };
     let signer = Signer {
         key: origin.key.take(),
@@ -212,7 +214,6 @@ pub fn visit_http(
     let clock = MemClock::new(Times::new(alloc));
     let pass = hub.split(first, 1)?;
     let tag = Body::empty(alloc);
-    let mut text = String::new(alloc);
     let mut session = HttpSession::new(alloc, hub, pass, &routes, &signer, tag, link, dial, clock);
     let mut outcome = None;
     let stayed = stay(
@@ -221,11 +222,13 @@ pub fn visit_http(
         first,
         &mut session,
         publishers,
-        &mut text,
+        text,
         &mut outcome,
     );
     let parts = session.parts();
+    let shown = show(alloc, text, outcome.as_ref(), parts.as_ref());
+    drop(outcome);
+    drop(parts);
     stayed?;
-    show(alloc, &mut text, outcome, parts)?;
-    Ok(text)
+    shown
 }

@@ -13,32 +13,34 @@ mod shown;
 mod visit;
 
 use case::Case;
+use std::alloc::{AllocError, Global};
 use std::io;
 
-/// Writes what a case gives.
-fn finish(rt: &HostRuntime, case: Case) -> io::Result<()> {
-    let text = case.play()?;
-    print!(rt; "{text}")
+/// Adds what a case of these lines gives.
+fn push_case(alloc: Global, text: &mut String, lines: &str) -> Result<(), AllocError> {
+    let mut case = Case::new(alloc);
+    for line in lines.lines() {
+        if !case.add(line)? {
+            writeln!(text, "not a line of a case: {line}")?;
+        }
+    }
+    let played = case.play(text);
+    drop(case);
+    played
+}
+
+/// The title of a case, and what it gives.
+fn played(alloc: Global, case: &str) -> Result<String, AllocError> {
+    let (title, lines) = case.split_once('\n').unwrap_or((case, ""));
+    let mut text = format!(in alloc; "# {}\n", title.trim_start_matches("# "))?;
+    push_case(alloc, &mut text, lines)?;
+    Ok(text)
 }
 
 fn main(rt: HostRuntime) -> io::Result<()> {
-    let mut case: Option<Case> = None;
-    for line in rt.lines(rt.alloc()) {
-        let line = line?;
-        if line.starts_with("# ") {
-            if let Some(whole) = case.take() {
-                finish(&rt, whole)?;
-            }
-            println!(rt; "{line}")?;
-            case = Some(Case::new(rt.alloc()));
-        } else if let Some(open) = &mut case {
-            if !open.add(line.as_str())? {
-                println!(rt; "not a line of a case: {line}")?;
-            }
-        }
+    let input = io::read_to_string(rt.alloc(), rt.reader())?;
+    for case in input.as_str().split("\n# ") {
+        print!(rt; "{}", played(rt.alloc(), case)?)?;
     }
-    match case {
-        Some(whole) => finish(&rt, whole),
-        None => Ok(()),
-    }
+    Ok(())
 }

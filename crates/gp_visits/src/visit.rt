@@ -3,7 +3,7 @@ ghost use Rattle.gp_plain.specs.Fit.{fits};
 ghost use Rattle.gp_session.specs.Seats.{IsFresh};
 
 use crate::shown::show_visit;
-use gp_hub::{Hub, HubPass, Outcome, Polled, Session};
+use gp_hub::{Hub, HubFault, HubPass, Outcome, Polled, Session};
 use gp_outside::{MemLink, Turns};
 use gp_plain::{Body, Event, HoldSpec, ItemId, Name, Reply, Taken};
 use gp_session_publish::PublishSession;
@@ -44,7 +44,7 @@ fn stay(alloc: Global, hub: &Hub, pass: HubPass, link: MemLink) -> Option<Visit>
 }
 
 /// A visit with a pass of its own.
-pub fn enter(
+fn enter(
     alloc: Global,
     hub: &Hub,
     first: &mut HubPass,
@@ -73,8 +73,24 @@ pub fn publish(
 {
     let (reads, writes) = (Turns::new(alloc), Turns::new(alloc));
     let link = MemLink::new(alloc, input, ROOM, reads, writes)?;
+    publish_over(alloc, hub, first, link, text)
+}
+
+/// A visit of a publisher over a link, and what it gives.
+pub fn publish_over(
+    alloc: Global,
+    hub: &Hub,
+    first: &mut HubPass,
+    link: MemLink,
+    text: &mut String,
+) -> Result<(), AllocError>
+    requires { first.old.turn ≡ hub.now }
+    ensures { first.new.turn ≡ first.old.turn }
+{
     let visit = enter(alloc, hub, first, link)?;
-    show_visit(alloc, text, visit.as_ref())
+    let shown = show_visit(alloc, text, visit.as_ref());
+    drop(visit);
+    shown
 }
 
 /// A reliable hold on `news` at `a`, without an opening and without a link.
@@ -91,6 +107,14 @@ fn news(alloc: Global) -> Option<Event>
     })
 }
 
+/// The number of a hold that was attached.
+fn number_of(got: &Result<Reply, HubFault>) -> Option<u64> {
+    match got {
+        Ok(Reply::Attached(number)) => Some(*number),
+        _ => None,
+    }
+}
+
 /// Attaches that hold, and answers its number.
 pub fn attach_news(alloc: Global, hub: &Hub, first: &mut HubPass) -> Result<Option<u64>, AllocError>
     requires { first.old.turn ≡ hub.now }
@@ -99,10 +123,10 @@ pub fn attach_news(alloc: Global, hub: &Hub, first: &mut HubPass) -> Result<Opti
     let Some(event) = news(alloc) else {
         return Err(AllocError);
     };
-    match hub.call(first, event) {
-        Ok(Reply::Attached(number)) => Ok(Some(number)),
-        _ => Ok(None),
-    }
+    let got = hub.call(first, event);
+    let number = number_of(&got);
+    drop(got);
+    Ok(number)
 }
 
 /// Attaches such holds until no more may be.
@@ -123,6 +147,9 @@ pub fn take(hub: &Hub, first: &mut HubPass, hold: u64) -> Option<Taken>
 {
     match hub.call(first, Event::Take { hold, now: 0 }) {
         Ok(Reply::Taken(taken)) => Some(taken),
-        _ => None,
+        other => {
+            drop(other);
+            None
+        }
     }
 }
