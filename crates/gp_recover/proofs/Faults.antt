@@ -1,7 +1,6 @@
 -- Why an answer is no page, by its head, by the length of its content, and by its instruction.
-use Rattle.std.proofs.Common.{◌≡◌, ℕ, ◌<◌, ◌≤◌, ◌++◌, Bool, true, false, List, [], ◌∷◌, length, Option, Some, None, Result, Ok, Err, IsOk, IsSome, refl, sym, ap, ◌∙◌, subst, ◌-◌, length-append, ◌⊎◌, inl, inr, arith}
+use Rattle.std.proofs.Common.{◌≡◌, ℕ, ◌<◌, ◌≤◌, ◌++◌, Bool, true, false, List, [], ◌∷◌, length, Option, Some, None, Ok, Err, IsOk, refl, sym, subst, ◌-◌, length-append, inl, inr, arith}
 use Rattle.gp_plain.specs.declared.http.Response.{Response}
-use Rattle.gp_plain.specs.declared.item.Field.{Field}
 use Rattle.gp_instruct.specs.declared.instruct.Instruct.{Instruct as Given}
 use Rattle.gp_instruct.specs.declared.instruct.Mode.{Mode}
 use Rattle.gp_instruct.specs.declared.instruct.Mode.TheVariants.{Response as Poll, Stream as Open}
@@ -11,21 +10,20 @@ use Rattle.gp_recover.specs.declared.page.Page.{Page}
 use Rattle.std.specs.Prelude.{unwrap_or}
 use Rattle.std.proofs.lemmas.Bool.{lt-ltb}
 use Rattle.gp_instruct.specs.declared.fault.InstructFault.TheVariants.{Link}
-use Rattle.gp_instruct.specs.Fields.{values}
 use Rattle.gp_instruct.specs.Heads.{AreLinksRead, IsFirstLink, IsFirstLinkFault, IsInstruct, IsLinksFault}
-use Rattle.gp_instruct.specs.Taken.{IsLinkOf, IsLinkFault, IsStop, IsNoTarget}
-use Rattle.gp_instruct.specs.Links.{part, scanned}
+use Rattle.gp_instruct.specs.Taken.{IsLinkOf, IsLinkFault}
+use Rattle.gp_instruct.specs.Links.{part}
 use Rattle.gp_instruct.specs.Targets.{IsTarget}
 use Rattle.gp_instruct.specs.Page as told
-use Rattle.gp_instruct_json.specs.Answers.{IsAnswer, IsAnswerBy, IsAnswerRefused, IsRefusedBy, IsHeadRefusal}
+use Rattle.gp_instruct_json.specs.Answers.{IsAnswer, IsAnswerBy, IsAnswerRefused, IsRefusedBy}
 use Rattle.gp_instruct_json.specs.Kinds.{has_type}
-use Rattle.gp_instruct_json.specs.Pages.{IsLongBy, IsShortBy, IsReadPage, max_body}
+use Rattle.gp_instruct_json.specs.Pages.{IsLongBy, IsShortBy}
 use Rattle.gp_instruct_json.specs.declared.answer.Answer.{Answer}
 use Rattle.gp_recover.specs.declared.page.PageFault.{PageFault}
 use Rattle.gp_recover.specs.declared.page.PageFault.TheVariants.{Exchange, Code, Instruct, Channel, TooLong}
-use Rattle.gp_recover.specs.Pages.{IsFaultOf, IsGivenFault, IsPageOf, PagesBy, page_told}
+use Rattle.gp_recover.specs.Pages.{IsFaultOf, IsGivenFault, IsPageOf, PagesBy}
 use Rattle.gp_recover.specs.declared.reader.Unread.{Unread}
-use Rattle.gp_recover.specs.Reading.{IsFault, IsUnread, IsGivenPage, IsHeadOpen, IsOpen, IsOpenBy, ReadingView, most_by, most_read}
+use Rattle.gp_recover.specs.Reading.{IsFault, IsUnread, IsHeadOpen, IsOpen, IsOpenBy, ReadingView, most_by, most_read}
 
 -- a link that is read isn't refused
 

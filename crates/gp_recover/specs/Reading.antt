@@ -1,5 +1,5 @@
 -- An answer whose content comes in parts, and of which nothing has been refused yet.
-use Rattle.std.specs.Prelude.{◌≡◌, ℕ, ◌≤◌, Bool, true, false, List, [], length, ◌++◌, Option, Result, Ok, Err, IsOk, if◌then◌else◌, ⊤}
+use Rattle.std.specs.Prelude.{◌≡◌, ℕ, ◌≤◌, Bool, true, false, List, [], length, ◌++◌, Option, IsOk, if◌then◌else◌, ⊤}
 use Rattle.gp_plain.specs.declared.http.Response.{Response}
 use Rattle.gp_instruct.specs.declared.instruct.Instruct.{Instruct as Given}
 use Rattle.gp_instruct.specs.declared.fault.InstructFault.TheVariants.{Link}

@@ -1,4 +1,4 @@
-use Rattle.std.proofs.Common.{◌≡◌, sym, subst}
+use Rattle.std.proofs.Common.{sym, subst}
 use Rattle.gp_recover.proofs.Faults.{head_unread, new_open}
 use Rattle.gp_recover.specs.Reading.{IsOpen}
 use Rattle.gp_recover.proofs.reader.PageReader.new.Goals as goal
@@ -9,4 +9,4 @@ returns-in-Err-clause-err c = head_unread c.args.head c.args.channel c.args.from
 pub invariant_of-result : goal.invariant_of-result
 invariant_of-result c =
     subst (λ content. IsOpen (record { head = c.args.head; channel = c.args.channel; from = c.args.from; content = content })) (sym c.empty.ensures)
-        (new_open c.args.head c.args.channel c.args.from (c.in-Ok.ensures.ok c.args.from))
+    (new_open c.args.head c.args.channel c.args.from (c.in-Ok.ensures.ok c.args.from))
