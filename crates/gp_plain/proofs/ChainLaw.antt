@@ -1,5 +1,5 @@
 -- Every reliable stream hold follows every chain that covers it, and leaves nothing of the window behind.
-use Rattle.std.proofs.Common.{◌≡◌, ℕ, zero, suc, ◌+◌, ◌-◌, ◌≤◌, Bool, true, false, cond, not, ◌&&◌, ◌||◌, nat_le, List, [], ◌∷◌, ◌++◌, length, map, eqb, refl, sym, ap, ◌∙◌, subst, arith, append_assoc, slice_get, Option, Some, None, is_some, option_map}
+use Rattle.std.proofs.Common.{◌≡◌, ℕ, zero, suc, ◌+◌, ◌-◌, ◌≤◌, Bool, true, false, cond, not, ◌&&◌, ◌||◌, nat_le, List, [], ◌∷◌, ◌++◌, length, map, eqb, refl, sym, ap, ◌∙◌, subst, arith, append_assoc, slice_get, Option, Some, None, is_none, is_some, option_map}
 use Rattle.std.specs.List.{AllByRecursion, list_any, find}
 use Rattle.std.specs.Option.{option_map_or}
 use Rattle.std.specs.Cmp.Lexicographic.{same_text}
@@ -11,18 +11,23 @@ use Rattle.std.proofs.lemmas.List.Folds.{list_any-append, list_any_none}
 use Rattle.gp_plain.specs.declared.item.Item.{Item}
 use Rattle.gp_plain.specs.declared.item.StreamPart.{StreamPart}
 use Rattle.gp_plain.specs.declared.event.Entry.{Entry}
+use Rattle.gp_plain.specs.declared.event.HoldKind.{HoldKind}
+use Rattle.gp_plain.specs.declared.event.HoldKind.TheVariants.{Stream as StreamKind}
+use Rattle.gp_plain.specs.declared.event.Then.{Then}
+use Rattle.gp_plain.specs.declared.event.Then.TheVariants.{Hold as HoldOn, Next, End}
 use Rattle.gp_plain.specs.declared.event.HoldSpec.{HoldSpec}
 use Rattle.gp_plain.specs.declared.event.HoldSpec.TheVariants.{Stream, Plain, Response, Socket}
 use Rattle.gp_plain.specs.declared.reply.Piece.{Piece}
+use Rattle.gp_plain.specs.declared.reply.Piece.TheVariants.{Page as PagePiece}
 use Rattle.gp_plain.specs.declared.reply.EndCause.{EndCause}
-use Rattle.gp_plain.specs.declared.reply.EndCause.TheVariants.{Gap, Overflow}
+use Rattle.gp_plain.specs.declared.reply.EndCause.TheVariants.{Closed, Gap, Unrecovered, Overflow}
 use Rattle.gp_plain.specs.Names.{same_id}
 use Rattle.gp_plain.specs.Items.{is_chained, is_id, comes_after, content_of, closes, is_on, goes_on_from}
 use Rattle.gp_plain.specs.Follow.{last_items, is_heard, without_first, going_on, follow_within, follow}
-use Rattle.gp_plain.specs.Pieces.{piece_bytes, text, moved, id_or, closed_by, end_by, has_room, batch}
-use Rattle.gp_plain.specs.Holds.{Terms, State, Held, terms_of, is_live, added, run, marked, gapped, can_ask, offered, shows_gap, run_for, piece_of, settled_if, grew, served, opened, begun_state, timed, rest_of, end_or_detached}
+use Rattle.gp_plain.specs.Pieces.{piece_bytes, text, moved, id_or, closed_by, end_by, has_room, batch, is_page, NoPage}
+use Rattle.gp_plain.specs.Holds.{Terms, State, Held, terms_of, is_live, added, run, marked, gapped, can_ask, offered, shows_gap, run_for, piece_of, settled_if, grew, served, opened, begun_state, timed, rest_of, end_or_detached, RecoveryPage, followers, is_stream, refusal, page_refusal, begins_at, takes_page, is_end, is_next, page_run, closed_behind, marked_anew, with_page, with_stale, after_page}
 use Rattle.gp_plain.specs.History.{held, published, window}
-use Rattle.gp_plain.specs.Chain.{Link, Chain, IsNoneOf, AreDistinct, bytes_of, last_id, IsIn, IsLinked, IsBetween, CoversIds, CoversItem, NoneCloses, Covers, ChainLaw, WindowLaw}
+use Rattle.gp_plain.specs.Chain.{Link, Chain, IsNoneOf, AreDistinct, bytes_of, last_id, IsIn, IsLinked, IsBetween, CoversIds, CoversItem, NoneCloses, ClosesLast, ClosesBy, IsHonest, Covers, ChainLaw, WindowLaw}
 use Rattle.gp_plain.proofs.Windows.{drop_all, all_front, all_last, window_more}
 use Rattle.gp_plain.proofs.Histories.{IsKept, in_each_history, all_at}
 use Rattle.gp_plain.proofs.Soundness.{Fits, taken_again, sound}
@@ -124,14 +129,25 @@ came_more c items item from (l ∷ links) p =
     let q : Item → Bool = λ (i : Item). nexts c from i && is_id i.id l.id in
     (list_any-append q items (item ∷ []) ∙ or_true (list_any q items) (list_any q (item ∷ [])) p.0, came_more c items item l.id links p.1)
 
--- a hold of which some was taken stands at a place of a chain
+front_nopage : (xs ys : List Piece) → NoPage (xs ++ ys) → NoPage xs
+front_nopage [] ys n = tt
+front_nopage (x ∷ xs) ys n = (n.0, front_nopage xs ys n.1)
+
+last_nopage : (xs : List Piece) (p : Piece) → NoPage (xs ++ p ∷ []) → is_page p ≡ false
+last_nopage [] p n = n.0
+last_nopage (x ∷ xs) p n = last_nopage xs p n.1
+
+before_nopage : (taken pending : List Piece) (p : Piece) → NoPage (taken ++ (pending ++ p ∷ [])) → NoPage (taken ++ pending)
+before_nopage taken pending p n = front_nopage (taken ++ pending) (p ∷ []) (subst NoPage (sym (append_assoc taken pending (p ∷ []))) n)
+
+-- a hold of which some was taken stands at a place of a chain. Without a page each of its items was published
 pub record At (c : Chain) (items : List Item) (opening start : List ℕ) (taken : List Piece) (between : List Link) (at : List ℕ) (s : State) : Type 0 where
   pub position_is : s.position ≡ Some at
   pub place : IsBetween c start at between
   pub bytes : text (taken ++ s.pending) ≡ opening ++ bytes_of between
   pub still_open : s.ended ≡ None → NoneCloses between
-  pub closes_last : (front : List Link) (l : Link) → between ≡ front ++ l ∷ [] → NoneCloses front
-  pub came : Came c items start between
+  pub closes_last : ClosesLast between
+  pub came : NoPage (taken ++ s.pending) → Came c items start between
 
 -- an item that was published
 pub record Good (c : Chain) (items : List Item) (item : Item) : Type 0 where
@@ -225,7 +241,7 @@ next_at c items opening start taken between at s item k d g e live a =
           ∙ append_assoc opening (bytes_of between) (content_of item.stream ++ []) ∙ ap (λ b. opening ++ b) (sym (bytes_of-append between (l ∷ [])));
       still_open = λ n. open_by between l (closes item.stream) refl n (a.still_open live);
       closes_last = λ front m q. subst NoneCloses (snoc_front between front l m q) (a.still_open live);
-      came = came-append c items start between (l ∷ []) a.came (
+      came = λ n. came-append c items start between (l ∷ []) (a.came (before_nopage taken s.pending (piece_of item) n)) (
         g.there (λ (i : Item). nexts c (last_id start between) i && is_id i.id k.own)
             (and_both (nexts c (last_id start between) item) (is_id item.id k.own) (ap (λ q. nexts c q item) a.place.to_is ∙ e) (own_id item.id k.own k.id_is)),
         tt,
@@ -398,7 +414,7 @@ Covered c items spec taken s = OfStream c spec (λ opening start. Stands c items
 
 pub record Law (c : Chain) (items : List Item) (h : Held) : Type 0 where
   pub fits : Fits h.spec h.taken h.state
-  pub law : AllByRecursion (CoversItem c) items → Covered c items h.spec h.taken h.state
+  pub law : AllByRecursion (CoversItem c) items → AllByRecursion (IsHonest c) h.pages → Covered c items h.spec h.taken h.state
 
 or_right : (a b : Bool) → b ≡ true → (a || b) ≡ true
 or_right true b e = refl
@@ -415,7 +431,7 @@ window_good c items all = drop_all (Good c items) (length items - 4096) items (g
 at_more : (c : Chain) (items : List Item) (opening start : List ℕ) (taken : List Piece) (between : List Link) (at : List ℕ) (s : State) (item : Item)
     → At c items opening start taken between at s → At c (items ++ item ∷ []) opening start taken between at s
 at_more c items opening start taken between at s item a =
-    record { position_is = a.position_is; place = a.place; bytes = a.bytes; still_open = a.still_open; closes_last = a.closes_last; came = came_more c items item start between a.came }
+    record { position_is = a.position_is; place = a.place; bytes = a.bytes; still_open = a.still_open; closes_last = a.closes_last; came = λ n. came_more c items item start between (a.came n) }
 
 -- a hold that stays, while one more item is published
 stands_more : (c : Chain) (items : List Item) (opening start : List ℕ) (taken : List Piece) (between : List Link) (at : List ℕ) (s : State) (item : Item)
@@ -552,7 +568,7 @@ fresh_at c items opening prev link at = record {
   bytes = refl;
   still_open = λ n. tt;
   closes_last = no_snoc;
-  came = tt;
+  came = λ n. tt;
 }
 
 fresh_stands : (c : Chain) (items : List Item) (opening prev : List ℕ) (link : Bool) → AreDistinct c.root c.links → AllByRecursion (CoversItem c) items → IsIn c prev
@@ -579,7 +595,7 @@ rest_stands : (c : Chain) (items : List Item) (opening start : List ℕ) (taken 
 rest_stands c items opening start taken s f = record {
   between = f.between;
   at = f.at;
-  now = record { position_is = f.now.position_is; place = f.now.place; bytes = ap text (taken_again taken s.pending) ∙ f.now.bytes; still_open = f.now.still_open; closes_last = f.now.closes_last; came = f.now.came };
+  now = record { position_is = f.now.position_is; place = f.now.place; bytes = ap text (taken_again taken s.pending) ∙ f.now.bytes; still_open = f.now.still_open; closes_last = f.now.closes_last; came = λ n. f.now.came (subst NoPage (taken_again taken s.pending) n) };
   none = f.none;
 }
 
@@ -600,12 +616,167 @@ go_law c items (Plain opening channels) taken s cause f = tt
 go_law c items (Response channels prev deadline again) taken s cause f = tt
 go_law c items Socket taken s cause f = tt
 
+-- pages
+
+none_front : (xs ys : List Link) → NoneCloses (xs ++ ys) → NoneCloses xs
+none_front [] ys n = tt
+none_front (x ∷ xs) ys n = (n.0, none_front xs ys n.1)
+
+none_last : (links : List Link) → NoneCloses links → ClosesLast links
+none_last links n = λ front l e. none_front front (l ∷ []) (subst NoneCloses e n)
+
+last_by : (follows : Then) (links : List Link) → ClosesBy follows links → ClosesLast links
+last_by HoldOn links n = none_last links n
+last_by Next links n = none_last links n
+last_by End links n = n
+
+none_by : (follows : Then) (links : List Link) → is_end follows ≡ false → ClosesBy follows links → NoneCloses links
+none_by HoldOn links e n = n
+none_by Next links e n = n
+none_by End links e n = absurd_true (sym e)
+
+-- what closes at its end at most, behind what doesn't close
+last_front : (x : Link) (links : List Link) (front : List Link) (l : Link) → closes x.stream ≡ false → ClosesLast links → x ∷ links ≡ front ++ l ∷ [] → NoneCloses front
+last_front x links [] l quiet last e = tt
+last_front x links (y ∷ front) l quiet last e =
+    let heads : x ≡ y = cc e in
+    let tails : links ≡ front ++ l ∷ [] = cc e in
+    (ap (λ (z : Link). closes z.stream) (sym heads) ∙ quiet, last front l tails)
+
+last_append : (xs ys : List Link) → NoneCloses xs → ClosesLast ys → ClosesLast (xs ++ ys)
+last_append [] ys n last = last
+last_append (x ∷ xs) ys n last = λ front l e. last_front x (xs ++ ys) front l n.0 (last_append xs ys n.1 last) e
+
+abbrev piece_of_page : RecoveryPage → Piece
+piece_of_page page = PagePiece page.from page.to page.bytes
+
+-- the items of an honest page that begins at the position
+page_at : (c : Chain) (items : List Item) (opening start : List ℕ) (taken : List Piece) (between : List Link) (at : List ℕ) (s : State) (page : RecoveryPage) (end : Option EndCause) (honest : IsHonest c page)
+    → AreDistinct c.root c.links → page.from ≡ at → s.ended ≡ None → (end ≡ None → NoneCloses honest.between) → At c items opening start taken between at s
+    → At c items opening start taken (between ++ honest.between) page.to
+    (record s { pending = s.pending ++ piece_of_page page ∷ []; position = option_map (λ (p : List ℕ). moved p (piece_of_page page)) s.position; ended = end; misses = 0 })
+page_at c items opening start taken between at s page end honest d from live open_still a =
+    let before = a.place.before in
+    let more = honest.between in
+    let up = before ++ between in
+    let p = piece_of_page page in
+    let whole : c.links ≡ up ++ a.place.rest = a.place.whole ∙ sym (append_assoc before between a.place.rest) in
+    let last : last_id c.root up ≡ at = last_id-append c.root before between ∙ ap (λ q. last_id q between) a.place.from_is ∙ a.place.to_is in
+    let one = one_place c.root up a.place.rest honest.place.before (more ++ honest.place.rest) (subst (AreDistinct c.root) whole d) (sym whole ∙ honest.place.whole) (last ∙ sym (honest.place.from_is ∙ from)) in
+    record {
+      position_is = ap (option_map (λ (q : List ℕ). moved q p)) a.position_is;
+      place = record {
+        before = before;
+        rest = honest.place.rest;
+        whole = a.place.whole ∙ ap (λ r. before ++ (between ++ r)) one.1 ∙ ap (λ r. before ++ r) (sym (append_assoc between more honest.place.rest));
+        from_is = a.place.from_is;
+        to_is = last_id-append start between more ∙ ap (λ q. last_id q more) (a.place.to_is ∙ sym from) ∙ honest.place.to_is;
+      };
+      bytes = ap text (sym (append_assoc taken s.pending (p ∷ []))) ∙ text-append (taken ++ s.pending) (p ∷ [])
+          ∙ ap (λ b. b ++ (page.bytes ++ [])) a.bytes
+          ∙ append_assoc opening (bytes_of between) (page.bytes ++ [])
+          ∙ ap (λ b. opening ++ (bytes_of between ++ b)) (append-nil page.bytes ∙ honest.bytes)
+          ∙ ap (λ b. opening ++ b) (sym (bytes_of-append between more));
+      still_open = λ n. none_closes-append between more (a.still_open live) (open_still n);
+      closes_last = last_append between more (a.still_open live) (last_by page.follows more honest.closes);
+      came = λ n. absurd_true (sym (last_nopage (taken ++ s.pending) p (subst NoPage (sym (append_assoc taken s.pending (p ∷ []))) n)));
+    }
+
+-- a page, and what follows it: by whether there is room for it, and whether it is the last
+page_stands : (c : Chain) (items : List Item) (opening start : List ℕ) (taken : List Piece) (s : State) (page : RecoveryPage) (f : Stands c items opening start taken s) (live room last : Bool)
+    → AreDistinct c.root c.links → AllByRecursion (CoversItem c) items → IsHonest c page → page.from ≡ f.at → s.ended ≡ None → is_live s ≡ live → is_end page.follows ≡ last
+    → Stands c items opening start taken
+    (closed_behind last (run (cond live (cond room (record s { pending = s.pending ++ piece_of_page page ∷ []; position = option_map (λ (p : List ℕ). moved p (piece_of_page page)) s.position; ended = end_by (piece_of_page page); misses = 0 }) (record s { ended = Some Overflow })) s)
+    (cond last [] (followers StreamKind c.channel page.to (last_items items)))))
+page_stands c items opening start taken s page f false room last d cov honest from n l e = dead_by s.ended l n
+page_stands c items opening start taken s page f true false true d cov honest from n l e =
+    record { between = f.between; at = f.at; now = ended_at c items opening start taken f.between f.at s Overflow f.now; none = λ m. absurd_some m }
+page_stands c items opening start taken s page f true false false d cov honest from n l e =
+    let t : State = record s { ended = Some Overflow } in
+    subst (Stands c items opening start taken) (sym (dead_run t (followers StreamKind c.channel page.to (last_items items)) refl))
+    (record { between = f.between; at = f.at; now = ended_at c items opening start taken f.between f.at s Overflow f.now; none = λ m. absurd_some m })
+page_stands c items opening start taken s page f true true true d cov honest from n l e = record {
+  between = f.between ++ honest.between;
+  at = page.to;
+  now = page_at c items opening start taken f.between f.at s page (Some Closed) honest d from n (λ m. absurd_some m) f.now;
+  none = λ m. absurd_some m;
+}
+page_stands c items opening start taken s page f true true false d cov honest from n l e =
+    let w = last_items items in
+    let t : State = record s { pending = s.pending ++ piece_of_page page ∷ []; position = option_map (λ (p : List ℕ). moved p (piece_of_page page)) s.position; ended = end_by (piece_of_page page); misses = 0 } in
+    let now = page_at c items opening start taken f.between f.at s page None honest d from n (λ m. none_by page.follows honest.between e honest.closes) f.now in
+    let g = went c items opening start taken (length w) w (f.between ++ honest.between) page.to t d (window_good c items cov) (le_self (length w)) now in
+    record { between = (f.between ++ honest.between) ++ g.more; at = g.at; now = g.now; none = g.none }
+
+anew_stands : (c : Chain) (items : List Item) (opening start : List ℕ) (taken : List Piece) (s : State) (next missed_more : Bool) (window : List Item)
+    → Stands c items opening start taken s → Stands c items opening start taken (marked_anew next missed_more window s)
+anew_stands c items opening start taken s next missed_more window f = record {
+  between = f.between;
+  at = f.at;
+  now = record { position_is = f.now.position_is; place = f.now.place; bytes = f.now.bytes; still_open = f.now.still_open; closes_last = f.now.closes_last; came = f.now.came };
+  none = f.none;
+}
+
+none_refused : (ended : Option EndCause) (has : Bool) (kind : HoldKind) → is_none (refusal ended has kind) ≡ true → ended ≡ None
+none_refused None has kind e = refl
+none_refused (Some cause) has kind e = absurd_true e
+
+honest_front : (c : Chain) (pages : List RecoveryPage) (page : RecoveryPage) → AllByRecursion (IsHonest c) (pages ++ page ∷ []) → AllByRecursion (IsHonest c) pages
+honest_front c [] page all = tt
+honest_front c (x ∷ pages) page all = (all.0, honest_front c pages page all.1)
+
+honest_last : (c : Chain) (pages : List RecoveryPage) (page : RecoveryPage) → AllByRecursion (IsHonest c) (pages ++ page ∷ []) → IsHonest c page
+honest_last c [] page all = all.0
+honest_last c (x ∷ pages) page all = honest_last c pages page all.1
+
+begins_there : (position : Option (List ℕ)) (at from : List ℕ) → position ≡ Some at → begins_at position from ≡ true → from ≡ at
+begins_there position at from is e = same_text from at (sym (sym (ap (λ (p : Option (List ℕ)). begins_at p from) is) ∙ e))
+
+-- a page of a stream that the chain covers, by whether it is refused and whether it begins at the position
+stream_page : (c : Chain) (items : List Item) (opening start : List ℕ) (link : Bool) (taken : List Piece) (pages : List RecoveryPage) (page : RecoveryPage) (s : State) (may begins : Bool)
+    → AreDistinct c.root c.links → AllByRecursion (CoversItem c) items → s.terms ≡ terms_of (Stream opening c.channel start link)
+    → is_none (page_refusal s) ≡ may → begins_at s.position page.from ≡ begins
+    → (AllByRecursion (IsHonest c) pages → Stands c items opening start taken s) → AllByRecursion (IsHonest c) (cond (may && begins) (pages ++ page ∷ []) pages)
+    → Stands c items opening start taken (cond may (cond begins (with_page (last_items items) page s) (with_stale (last_items items) s)) s)
+stream_page c items opening start link taken pages page s false begins d cov t m b f honest = f honest
+stream_page c items opening start link taken pages page s true false d cov t m b f honest = anew_stands c items opening start taken s false true (last_items items) (f honest)
+stream_page c items opening start link taken pages page s true true d cov t m b f honest =
+    let w = last_items items in
+    let g = f (honest_front c pages page honest) in
+    let n = none_refused s.ended (is_stream s.terms.kind) s.terms.kind m in
+    let paged = page_stands c items opening start taken s page g (is_live s) (has_room s.pending (piece_of_page page)) (is_end page.follows) d cov (honest_last c pages page honest)
+    (begins_there s.position g.at page.from g.now.position_is b) n refl refl in
+    anew_stands c items opening start taken (closed_behind (is_end page.follows) (run s (page_run s.terms page w))) (is_next page.follows) s.late w
+    (subst (λ (k : Terms). Stands c items opening start taken (closed_behind (is_end page.follows) (run s (page_run k page w)))) (sym t) paged)
+
+page_law : (c : Chain) (items : List Item) (spec : HoldSpec) (taken : List Piece) (pages : List RecoveryPage) (page : RecoveryPage) (s : State) → AreDistinct c.root c.links → s.terms ≡ terms_of spec
+    → AllByRecursion (CoversItem c) items → (AllByRecursion (IsHonest c) pages → Covered c items spec taken s)
+    → AllByRecursion (IsHonest c) (cond (takes_page s page.from) (pages ++ page ∷ []) pages) → Covered c items spec taken (after_page (last_items items) page s)
+page_law c items (Stream opening channel prev link) taken pages page s d t cov f honest = λ same at.
+    stream_page c items opening prev link taken pages page s (is_none (page_refusal s)) (begins_at s.position page.from) d cov (t ∙ ap (λ (ch : List ℕ). terms_of (Stream opening ch prev link)) same) refl refl
+    (λ all. f all same at) honest
+page_law c items (Plain opening channels) taken pages page s d t cov f honest = tt
+page_law c items (Response channels prev deadline again) taken pages page s d t cov f honest = tt
+page_law c items Socket taken pages page s d t cov f honest = tt
+
+fail_law : (c : Chain) (items : List Item) (spec : HoldSpec) (taken : List Piece) (s : State) (may : Bool) → Covered c items spec taken s → Covered c items spec taken (cond may (record s { ended = Some Unrecovered }) s)
+fail_law c items spec taken s true f = go_law c items spec taken s Unrecovered f
+fail_law c items spec taken s false f = f
+
 law_kept : (c : Chain) → AreDistinct c.root c.links → IsKept (Law c)
 law_kept c d = record {
-  fresh = λ items who spec. record { fits = sound.fresh items who spec; law = λ cov. fresh_law c items spec d cov };
-  serve = λ items item h f. record { fits = sound.serve items item h f.fits; law = λ cov. served_law c items h.spec h.taken h.state item d f.fits.terms_are f.law cov };
-  take = λ items now h f. record { fits = sound.take items now h f.fits; law = λ cov. take_law c items h.spec h.taken now h.state f.fits.terms_are (f.law cov) };
-  go = λ items h f. record { fits = sound.go items h f.fits; law = λ cov. go_law c items h.spec h.taken h.state (end_or_detached h.state.ended) (f.law cov) };
+  fresh = λ items who spec. record { fits = sound.fresh items who spec; law = λ cov honest. fresh_law c items spec d cov };
+  serve = λ items item h f. record {
+    fits = sound.serve items item h f.fits;
+    law = λ cov honest. served_law c items h.spec h.taken h.state item d f.fits.terms_are (λ before. f.law before honest) cov;
+  };
+  take = λ items now h f. record { fits = sound.take items now h f.fits; law = λ cov honest. take_law c items h.spec h.taken now h.state f.fits.terms_are (f.law cov honest) };
+  page = λ items page h f. record {
+    fits = sound.page items page h f.fits;
+    law = λ cov honest. page_law c items h.spec h.taken h.pages page h.state d f.fits.terms_are cov (λ all. f.law cov all) honest;
+  };
+  fail = λ items h f. record { fits = sound.fail items h f.fits; law = λ cov honest. fail_law c items h.spec h.taken h.state (is_none (page_refusal h.state)) (f.law cov honest) };
+  go = λ items h f. record { fits = sound.go items h f.fits; law = λ cov honest. go_law c items h.spec h.taken h.state (end_or_detached h.state.ended) (f.law cov honest) };
 }
 
 pub laws : (c : Chain) (entries : List Entry) → AreDistinct c.root c.links → AllByRecursion (Law c (published entries)) (held entries)
@@ -619,7 +790,7 @@ pub covered_stands : (c : Chain) (entries : List Entry) (number : ℕ) (h : Held
     → Stands c (published entries) v.opening v.start h.taken h.state
 covered_stands c entries number h there v =
     let law = all_at (Law c (published entries)) (held entries) number h (laws c entries v.distinct) there in
-    let covered = law.law (recursion_from_All (CoversItem c) (published entries) v.published) in
+    let covered = law.law (recursion_from_All (CoversItem c) (published entries) v.published) (recursion_from_All (IsHonest c) h.pages v.pages) in
     subst (λ (spec : HoldSpec). Covered c (published entries) spec h.taken h.state) v.channel covered refl v.root
 
 pub chain_law_holds : ChainLaw

@@ -1,8 +1,9 @@
 -- How holds end, in each history.
-use Rattle.std.proofs.Common.{◌≡◌, ◌⊎◌, inl, inr, ℕ, ◌+◌, Bool, true, false, cond, not, ◌||◌, nat_le, List, [], ◌∷◌, ◌++◌, refl, sym, ap, ◌∙◌, subst, append_assoc, Option, Some, None, is_some, option_map}
+use Rattle.std.proofs.Common.{◌≡◌, ◌⊎◌, inl, inr, ℕ, ◌+◌, Bool, true, false, cond, not, ◌&&◌, ◌||◌, nat_le, List, [], ◌∷◌, ◌++◌, refl, sym, ap, ◌∙◌, subst, append_assoc, Option, Some, None, is_none, is_some, option_map}
 use Rattle.std.specs.List.{AllByRecursion}
 use Rattle.std.specs.Option.{option_map_or}
 use Rattle.gp_plain.specs.declared.item.Item.{Item}
+use Rattle.gp_plain.specs.declared.event.HoldKind.{HoldKind}
 use Rattle.gp_plain.specs.declared.event.HoldSpec.{HoldSpec}
 use Rattle.gp_plain.specs.declared.event.HoldSpec.TheVariants.{Stream, Plain, Response, Socket}
 use Rattle.gp_plain.specs.declared.reply.Piece.{Piece}
@@ -10,12 +11,13 @@ use Rattle.gp_plain.specs.declared.reply.EndCause.{EndCause}
 use Rattle.gp_plain.specs.declared.reply.EndCause.TheVariants.{Closed, Detached, Gap, Unrecovered, Overflow, Answered, Retry, TimedOut}
 use Rattle.gp_plain.specs.Pieces.{end_by, has_room, moved, left}
 use Rattle.gp_plain.specs.Follow.{last_items}
-use Rattle.gp_plain.specs.Holds.{State, Held, openings, opened, only_channel, followers, begun_state, is_live, added, run, marked, missed, gapped, can_ask, offered, shows_gap, run_for, settled_if, grew, timed, rest_of, ends_now, taken_of, end_or_detached}
+use Rattle.gp_plain.specs.Holds.{State, Held, openings, opened, only_channel, followers, begun_state, is_live, added, run, marked, missed, gapped, can_ask, offered, shows_gap, run_for, settled_if, grew, timed, rest_of, ends_now, taken_of, end_or_detached, RecoveryPage, page_refusal, refusal, is_stream, begins_at, is_end, page_run, with_page, with_stale, after_page, after_failure}
 use Rattle.gp_plain.specs.History.{held, published}
 use Rattle.gp_plain.specs.Ends.{PositionLaw, ToldLaw, IsBrought, EndsByPiece, AnswerLaw}
 use Rattle.gp_plain.proofs.Histories.{IsKept, in_each_history, all_at}
 use Rattle.gp_plain.proofs.Soundness.{IsSound, are_sound, taken_again}
 use Rattle.gp_plain.proofs.Released.{have_ended}
+use Rattle.gp_plain.proofs.Paging.{page_dead, failure_dead}
 
 absurd_true : {A : Type 0} → true ≡ false → A
 absurd_true e = cc
@@ -49,6 +51,10 @@ serve_told item before after s cause released f =
     let same = dead_served item before after s (is_live s) (live_not s cause f.1) in
     (ap (λ (t : State). t.pending) same ∙ f.0, ap (λ (t : State). t.ended) same ∙ f.1, f.2)
 
+-- what leaves a hold that ended as it is, leaves what was told
+same_told : (s t : State) (cause : EndCause) (released : Bool) → t ≡ s → (s.pending ≡ []) × (s.ended ≡ Some cause) × (released ≡ true) → (t.pending ≡ []) × (t.ended ≡ Some cause) × (released ≡ true)
+same_told s t cause released same f = (ap (λ (u : State). u.pending) same ∙ f.0, ap (λ (u : State). u.ended) same ∙ f.1, f.2)
+
 or_some : (released : Bool) (told : Option EndCause) (cause : EndCause) → told ≡ Some cause → (released || is_some told) ≡ true
 or_some true told cause e = refl
 or_some false told cause e = ap is_some e
@@ -69,6 +75,12 @@ told_kept = record {
   fresh = λ items who spec. record { told = λ cause e. no_cause (sym e) };
   serve = λ items item h f. record { told = λ cause e. serve_told item (last_items items) (last_items (items ++ item ∷ [])) h.state cause h.released (f.told cause e) };
   take = λ items now h f. record { told = λ cause e. take_told now h.state h.released cause e };
+  page = λ items page h f. record {
+    told = λ cause e.
+        let t = f.told cause e in
+        same_told h.state (after_page (last_items items) page h.state) cause h.released (page_dead (last_items items) page h.state (live_not h.state cause t.1)) t;
+  };
+  fail = λ items h f. record { told = λ cause e. let t = f.told cause e in same_told h.state (after_failure h.state) cause h.released (failure_dead h.state (live_not h.state cause t.1)) t };
   go = λ items h f. record { told = λ cause e. let t = f.told cause e in (t.0, ap (λ (o : Option EndCause). Some (end_or_detached o)) t.1, refl) };
 }
 
@@ -181,6 +193,27 @@ pub time_ends : (taken : List Piece) (now : ℕ) (deadline : Option ℕ) (s : St
 time_ends taken now None s f = f
 time_ends taken now (Some deadline) s f = time_by taken s (is_live s) (nat_le deadline now) s.want refl f
 
+close_ends : (taken : List Piece) (s : State) (last live : Bool) → is_live s ≡ live → Ends (taken ++ s.pending) s.ended → (let t = cond (last && live) (record s { ended = Some Closed }) s in Ends (taken ++ t.pending) t.ended)
+close_ends taken s true true l f = ended_so (taken ++ s.pending) Closed (f.live (still_live s.ended l)) refl
+close_ends taken s true false l f = f
+close_ends taken s false live l f = f
+
+page_ends : (taken : List Piece) (window : List Item) (page : RecoveryPage) (s : State) (may begins : Bool) → Ends (taken ++ s.pending) s.ended
+    → (let t = cond may (cond begins (with_page window page s) (with_stale window s)) s in Ends (taken ++ t.pending) t.ended)
+page_ends taken window page s true true f =
+    let t = run s (page_run s.terms page window) in
+    close_ends taken t (is_end page.follows) (is_live t) refl (run_ends taken s (page_run s.terms page window) f)
+page_ends taken window page s true false f = f
+page_ends taken window page s false begins f = f
+
+none_refused : (ended : Option EndCause) (has : Bool) (kind : HoldKind) → is_none (refusal ended has kind) ≡ true → ended ≡ None
+none_refused None has kind e = refl
+none_refused (Some cause) has kind e = absurd_true (sym e)
+
+fail_ends : (taken : List Piece) (s : State) (may : Bool) → is_none (page_refusal s) ≡ may → Ends (taken ++ s.pending) s.ended → (let t = cond may (record s { ended = Some Unrecovered }) s in Ends (taken ++ t.pending) t.ended)
+fail_ends taken s true m f = ended_so (taken ++ s.pending) Unrecovered (f.live (none_refused s.ended (is_stream s.terms.kind) s.terms.kind m)) refl
+fail_ends taken s false m f = f
+
 go_ends : (ps : List Piece) (ended : Option EndCause) → Ends ps ended → Ends ps (Some (end_or_detached ended))
 go_ends ps None f = ended_so ps Detached (f.live refl) refl
 go_ends ps (Some cause) f = f
@@ -192,6 +225,8 @@ ends_kept = record {
   take = λ items now h f.
       let u = timed now h.state.terms.deadline h.state in
       subst (λ ps. Ends ps u.ended) (sym (taken_again h.taken u.pending)) (time_ends h.taken now h.state.terms.deadline h.state f);
+  page = λ items page h f. page_ends h.taken (last_items items) page h.state (is_none (page_refusal h.state)) (begins_at h.state.position page.from) f;
+  fail = λ items h f. fail_ends h.taken h.state (is_none (page_refusal h.state)) refl f;
   go = λ items h f. go_ends (h.taken ++ h.state.pending) h.state.ended f;
 }
 

@@ -7,14 +7,16 @@ use Rattle.gp_plain.specs.declared.event.Event.{Event}
 use Rattle.gp_plain.specs.declared.event.Event.TheVariants.{Attach, Publish, Take, Page, PageFailed, Push, Join, Leave, Detach}
 use Rattle.gp_plain.specs.declared.event.HoldSpec.{HoldSpec}
 use Rattle.gp_plain.specs.Follow.{last_items, is_repeat}
-use Rattle.gp_plain.specs.Holds.{Held, begun, taken_from, let_go}
-use Rattle.gp_plain.specs.History.{Past, has_place, changed, served_by, with_item, with_hold, after_event, after, nothing, held, published}
+use Rattle.gp_plain.specs.Holds.{Held, RecoveryPage, begun, taken_from, paged_from, failed, let_go}
+use Rattle.gp_plain.specs.History.{Past, page_of, has_place, changed, served_by, with_item, with_hold, after_event, after, nothing, held, published}
 
 -- what is said of a hold and of the items published so far is kept by each event
 pub record IsKept (Says : List Item → Held → Type 0) : Type 0 where
   pub fresh : (items : List Item) (who : ℕ) (spec : HoldSpec) → Says items (begun who spec (last_items items))
   pub serve : (items : List Item) (item : Item) (h : Held) → Says items h → Says (items ++ item ∷ []) (served_by item (last_items items) (last_items (items ++ item ∷ [])) h)
   pub take : (items : List Item) (now : ℕ) (h : Held) → Says items h → Says items (taken_from now h)
+  pub page : (items : List Item) (page : RecoveryPage) (h : Held) → Says items h → Says items (paged_from (last_items items) page h)
+  pub fail : (items : List Item) (h : Held) → Says items h → Says items (failed h)
   pub go : (items : List Item) (h : Held) → Says items h → Says items (let_go h)
 
 abbrev IsKeptBy : (List Item → Held → Type 0) → Past → Type 0
@@ -53,8 +55,10 @@ after_all says past who (Attach spec) k all = attached says past (begun who spec
 after_all says past who (Publish item) k all = published_by says past item (is_repeat (last_items past.published) item) k all
 after_all says past who (Take hold now) k all = changed_all (says past.published) who hold (taken_from now) past.holds (k.take past.published now) all
 after_all says past who (Detach hold) k all = changed_all (says past.published) who hold let_go past.holds (k.go past.published) all
-after_all says past who (Page hold from to bytes then) k all = all
-after_all says past who (PageFailed hold) k all = all
+after_all says past who (Page hold from to bytes then) k all =
+    let page = page_of from to bytes then in
+    changed_all (says past.published) who hold (paged_from (last_items past.published) page) past.holds (k.page past.published page) all
+after_all says past who (PageFailed hold) k all = changed_all (says past.published) who hold failed past.holds (k.fail past.published) all
 after_all says past who (Push hold message) k all = all
 after_all says past who (Join hold channel) k all = all
 after_all says past who (Leave hold channel) k all = all

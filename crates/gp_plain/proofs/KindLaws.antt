@@ -1,11 +1,12 @@
 -- What a Take of a kept hold may give, in each history.
-use Rattle.std.proofs.Common.{◌≡◌, ℕ, ◌+◌, Bool, true, false, cond, not, ◌&&◌, ◌||◌, nat_le, List, [], ◌∷◌, ◌++◌, map, refl, sym, ap, ◌∙◌, subst, append_assoc, Option, Some, None, is_some, option_map}
+use Rattle.std.proofs.Common.{◌≡◌, ℕ, ◌+◌, Bool, true, false, cond, not, ◌&&◌, ◌||◌, nat_le, List, [], ◌∷◌, ◌++◌, map, refl, sym, ap, ◌∙◌, subst, append_assoc, Option, Some, None, is_none, is_some, option_map}
 use Rattle.std.specs.List.{AllByRecursion}
 use Rattle.std.specs.Option.{option_map_or}
 use Rattle.std.proofs.lemmas.List.{append-nil, take-append-drop}
 use Rattle.gp_plain.specs.declared.item.Item.{Item}
 use Rattle.gp_plain.specs.declared.item.ResponsePart.{ResponsePart}
 use Rattle.gp_plain.specs.declared.item.StreamPart.{StreamPart}
+use Rattle.gp_plain.specs.declared.event.HoldKind.{HoldKind}
 use Rattle.gp_plain.specs.declared.event.HoldSpec.{HoldSpec}
 use Rattle.gp_plain.specs.declared.event.HoldSpec.TheVariants.{Stream, Plain, Response, Socket}
 use Rattle.gp_plain.specs.declared.reply.Piece.{Piece}
@@ -14,7 +15,7 @@ use Rattle.gp_plain.specs.declared.reply.EndCause.TheVariants.{Closed, Detached,
 use Rattle.gp_plain.specs.Items.{closes}
 use Rattle.gp_plain.specs.Pieces.{position_after, closed_by, end_by, has_room, moved, batch_count, batch, left}
 use Rattle.gp_plain.specs.Follow.{last_items, is_heard, follow}
-use Rattle.gp_plain.specs.Holds.{Terms, State, Held, terms_of, start_of, opened, only_channel, followers, comes_next, leaves_gap, run_by, run_for, piece_by, answer_or, ends_by, stream_piece, answer_piece, begun_state, is_live, is_ahead, wants_more, added, run, marked, missed, gapped, can_ask, offered, shows_gap, settled_if, grew, timed, rest_of, ends_now, asks, is_retry, repeats, recover_from, given, taken_of}
+use Rattle.gp_plain.specs.Holds.{Terms, State, Held, terms_of, start_of, opened, only_channel, followers, comes_next, leaves_gap, run_by, run_for, piece_by, answer_or, ends_by, stream_piece, answer_piece, begun_state, is_live, is_ahead, wants_more, added, run, marked, missed, gapped, can_ask, offered, shows_gap, settled_if, grew, timed, rest_of, ends_now, asks, is_retry, repeats, recover_from, given, taken_of, RecoveryPage, refusal, is_stream, page_refusal, begins_at, is_end, is_next, page_run, closed_behind, marked_anew, with_page, with_stale}
 use Rattle.gp_plain.specs.History.{held}
 use Rattle.gp_plain.specs.Kinds.{may_end, RecoverFits, TakenFits, KindLaw}
 use Rattle.gp_plain.proofs.Histories.{IsKept, in_each_history, all_at}
@@ -229,6 +230,70 @@ timed_kind spec now s t f = subst (λ (terms : Terms). OfKind spec (timed now te
 rest_kind : (spec : HoldSpec) (s : State) → OfKind spec s → OfKind spec (rest_of s)
 rest_kind spec s f = record { ends = f.ends; wants = λ e. f.wants (and_first s.want (not (asks s)) e) }
 
+-- pages are for streams alone
+
+stream_only : (ended : Option EndCause) (has : Bool) (kind : HoldKind) → is_none (refusal ended has kind) ≡ true → has ≡ true
+stream_only None true kind e = refl
+stream_only None false kind e = absurd_true (sym e)
+stream_only (Some cause) has kind e = absurd_true (sym e)
+
+close_kind : (spec : HoldSpec) (s : State) (closes : Bool) → may_end spec Closed ≡ true → OfKind spec s → OfKind spec (cond closes (record s { ended = Some Closed }) s)
+close_kind spec s true may f = record { ends = one_may spec Closed may; wants = f.wants }
+close_kind spec s false may f = f
+
+page_may : (opening channel prev : List ℕ) (link : Bool) (page : RecoveryPage) (window : List Item) (last : Bool)
+    → (let spec = Stream opening channel prev link in AllMay spec (cond last [] (followers (terms_of spec).kind (only_channel (terms_of spec).channels) page.to window)))
+page_may opening channel prev link page window true = tt
+page_may opening channel prev link page window false = map_may (Stream opening channel prev link) (follow channel (ends_by (terms_of (Stream opening channel prev link)).kind) page.to window)
+
+run_terms : (s : State) (ps : List Piece) → (run s ps).terms ≡ s.terms
+run_terms s [] = refl
+run_terms s (p ∷ ps) = run_terms (added s p) ps ∙ added_terms s p (is_live s) (has_room s.pending p)
+  where
+    added_terms : (s : State) (p : Piece) (live room : Bool)
+        → (cond live (cond room (record s { pending = s.pending ++ p ∷ []; position = option_map (λ (at : List ℕ). moved at p) s.position; ended = end_by p; misses = 0 }) (record s { ended = Some Overflow })) s).terms ≡ s.terms
+    added_terms s p true true = refl
+    added_terms s p true false = refl
+    added_terms s p false room = refl
+
+anew_kind : (spec : HoldSpec) (s : State) (next missed_more : Bool) (window : List Item) → s.terms ≡ terms_of spec → ((terms_of spec).link ≡ true → can_want spec ≡ true) → OfKind spec s → OfKind spec (marked_anew next missed_more window s)
+anew_kind spec s next missed_more window t can f = record {
+  ends = f.ends;
+  wants = λ e. can (ap (λ (k : Terms). k.link) (sym t) ∙ and_first s.terms.link (next || (missed_more && is_ahead s.terms s.position window)) e);
+}
+
+closed_terms : (s : State) (closes : Bool) → (cond closes (record s { ended = Some Closed }) s).terms ≡ s.terms
+closed_terms s true = refl
+closed_terms s false = refl
+
+stream_page_kind : (opening channel prev : List ℕ) (link : Bool) (window : List Item) (page : RecoveryPage) (s : State) → (let spec = Stream opening channel prev link in s.terms ≡ terms_of spec → OfKind spec s → OfKind spec (with_page window page s))
+stream_page_kind opening channel prev link window page s t f =
+    let spec = Stream opening channel prev link in
+    let ps = page_run s.terms page window in
+    let all = subst (λ (k : Terms). AllMay spec (page_run k page window)) (sym t) (none_may spec, page_may opening channel prev link page window (is_end page.follows)) in
+    let ran = run s ps in
+    let closes = is_end page.follows && is_live ran in
+    anew_kind spec (closed_behind (is_end page.follows) ran) (is_next page.follows) s.late window (closed_terms ran closes ∙ run_terms s ps ∙ t) (λ e. e) (close_kind spec ran closes refl (run_kind spec s ps all f))
+
+page_kind : (spec : HoldSpec) (window : List Item) (page : RecoveryPage) (s : State) (may begins : Bool) → s.terms ≡ terms_of spec → (may ≡ true → is_stream (terms_of spec).kind ≡ true) → OfKind spec s
+    → OfKind spec (cond may (cond begins (with_page window page s) (with_stale window s)) s)
+page_kind spec window page s false begins t has f = f
+page_kind (Stream opening channel prev link) window page s true true t has f = stream_page_kind opening channel prev link window page s t f
+page_kind (Stream opening channel prev link) window page s true false t has f = anew_kind (Stream opening channel prev link) s false true window t (λ e. e) f
+page_kind (Plain opening channels) window page s true begins t has f = absurd_true (sym (has refl))
+page_kind (Response channels prev deadline again) window page s true begins t has f = absurd_true (sym (has refl))
+page_kind Socket window page s true begins t has f = absurd_true (sym (has refl))
+
+fail_kind : (spec : HoldSpec) (s : State) (may : Bool) → (may ≡ true → is_stream (terms_of spec).kind ≡ true) → OfKind spec s → OfKind spec (cond may (record s { ended = Some Unrecovered }) s)
+fail_kind spec s false has f = f
+fail_kind (Stream opening channel prev link) s true has f = record { ends = one_may (Stream opening channel prev link) Unrecovered refl; wants = f.wants }
+fail_kind (Plain opening channels) s true has f = absurd_true (sym (has refl))
+fail_kind (Response channels prev deadline again) s true has f = absurd_true (sym (has refl))
+fail_kind Socket s true has f = absurd_true (sym (has refl))
+
+has_pages : (spec : HoldSpec) (s : State) → s.terms ≡ terms_of spec → is_none (page_refusal s) ≡ true → is_stream (terms_of spec).kind ≡ true
+has_pages spec s t e = ap (λ (k : Terms). is_stream k.kind) (sym t) ∙ stream_only s.ended (is_stream s.terms.kind) s.terms.kind e
+
 or_first : (a b : Bool) → (a || b) ≡ false → a ≡ false
 or_first true b e = absurd_true e
 or_first false b e = refl
@@ -313,6 +378,19 @@ kinds_kept = record {
         let u = timed now h.state.terms.deadline h.state in
         quiet_given h.taken u.pending u.ended (time_ends h.taken now h.state.terms.deadline h.state f.all) (none_told (taken_of now h.state).ended (or_second h.released (is_some (taken_of now h.state).ended) e)) (f.quiet (or_first h.released (is_some (taken_of now h.state).ended) e));
     kind = λ e. rest_kind h.spec (timed now h.state.terms.deadline h.state) (timed_kind h.spec now h.state f.fits.terms_are (f.kind (or_first h.released (is_some (taken_of now h.state).ended) e)));
+  };
+  page = λ items page h f. record {
+    fits = sound.page items page h f.fits;
+    all = ends_kept.page items page h f.all;
+    quiet = f.quiet;
+    kind = λ e.
+        page_kind h.spec (last_items items) page h.state (is_none (page_refusal h.state)) (begins_at h.state.position page.from) f.fits.terms_are (λ m. has_pages h.spec h.state f.fits.terms_are m) (f.kind e);
+  };
+  fail = λ items h f. record {
+    fits = sound.fail items h f.fits;
+    all = ends_kept.fail items h f.all;
+    quiet = f.quiet;
+    kind = λ e. fail_kind h.spec h.state (is_none (page_refusal h.state)) (λ m. has_pages h.spec h.state f.fits.terms_are m) (f.kind e);
   };
   go = λ items h f. record { fits = sound.go items h f.fits; all = ends_kept.go items h f.all; quiet = λ e. absurd_true e; kind = λ e. absurd_true e };
 }

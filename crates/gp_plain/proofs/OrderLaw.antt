@@ -17,9 +17,9 @@ use Rattle.gp_plain.specs.declared.reply.Piece.{Piece}
 use Rattle.gp_plain.specs.Names.{same_id}
 use Rattle.gp_plain.specs.Items.{is_id, is_on, is_same}
 use Rattle.gp_plain.specs.Follow.{last_items, is_repeat}
-use Rattle.gp_plain.specs.Pieces.{text}
-use Rattle.gp_plain.specs.Holds.{State, Held, begun, taken_from, let_go}
-use Rattle.gp_plain.specs.History.{Past, has_place, changed, served_by, with_item, with_hold, after_event, after, nothing, past_of, held, published}
+use Rattle.gp_plain.specs.Pieces.{text, NoPage}
+use Rattle.gp_plain.specs.Holds.{State, Held, begun, taken_from, paged_from, failed, let_go}
+use Rattle.gp_plain.specs.History.{Past, page_of, has_place, changed, served_by, with_item, with_hold, after_event, after, nothing, past_of, held, published}
 use Rattle.gp_plain.specs.Chain.{Link, Chain, AreDistinct, bytes_of, last_id}
 use Rattle.gp_plain.specs.Order.{sent_by, sent, are_apart, Attaches, AreFew, OrderLaw}
 use Rattle.gp_plain.proofs.ChainLaw.{one_place, Came, Stands, covered_stands, nexts, none_any, and_left, and_right, same_ids, absurd_true}
@@ -70,8 +70,10 @@ event_specs past who (Attach spec) = attach_specs past (begun who spec (last_ite
 event_specs past who (Publish item) = publish_specs past item (is_repeat (last_items past.published) item)
 event_specs past who (Take hold now) = same_specs (specs past.holds) (specs (changed who hold (taken_from now) past.holds)) (changed_specs who hold (taken_from now) past.holds (λ k. refl))
 event_specs past who (Detach hold) = same_specs (specs past.holds) (specs (changed who hold let_go past.holds)) (changed_specs who hold let_go past.holds (λ k. refl))
-event_specs past who (Page hold from to bytes then) = same_specs (specs past.holds) (specs past.holds) refl
-event_specs past who (PageFailed hold) = same_specs (specs past.holds) (specs past.holds) refl
+event_specs past who (Page hold from to bytes then) =
+    let f = paged_from (last_items past.published) (page_of from to bytes then) in
+    same_specs (specs past.holds) (specs (changed who hold f past.holds)) (changed_specs who hold f past.holds (λ k. refl))
+event_specs past who (PageFailed hold) = same_specs (specs past.holds) (specs (changed who hold failed past.holds)) (changed_specs who hold failed past.holds (λ k. refl))
 event_specs past who (Push hold message) = same_specs (specs past.holds) (specs past.holds) refl
 event_specs past who (Join hold channel) = same_specs (specs past.holds) (specs past.holds) refl
 event_specs past who (Leave hold channel) = same_specs (specs past.holds) (specs past.holds) refl
@@ -195,8 +197,8 @@ by_event past who (Attach spec) es rest apart few =
 by_event past who (Publish item) es rest apart few = publish_by past item es (is_repeat (last_items past.published) item) refl rest apart few
 by_event past who (Take hold now) es rest apart few = rest (after_event past who (Take hold now)) apart few
 by_event past who (Detach hold) es rest apart few = rest (after_event past who (Detach hold)) apart few
-by_event past who (Page hold from to bytes then) es rest apart few = rest past apart few
-by_event past who (PageFailed hold) es rest apart few = rest past apart few
+by_event past who (Page hold from to bytes then) es rest apart few = rest (after_event past who (Page hold from to bytes then)) apart few
+by_event past who (PageFailed hold) es rest apart few = rest (after_event past who (PageFailed hold)) apart few
 by_event past who (Push hold message) es rest apart few = rest past apart few
 by_event past who (Join hold channel) es rest apart few = rest past apart few
 by_event past who (Leave hold channel) es rest apart few = rest past apart few
@@ -266,9 +268,9 @@ any_less q p (x ∷ xs) e = any_by (q x) (p x) (list_any q xs) (list_any (λ (i 
 
 -- a hold that didn't go as far as another left an item of the window behind
 left_behind : {A : Type 0} (c : Chain) (first second : List Item) (opening start : List ℕ) (taken taken' : List Piece) (s t : State) → IsPermutation second first → length first ≤ 4096
-    → (f : Stands c first opening start taken s) (g : Stands c second opening start taken' t) → s.ended ≡ None → Further f.between g.between → A
-left_behind c first second opening start taken taken' s t same few f g live further =
-    let came = came_at c second start f.between further.more further.link (subst (Came c second start) further.is g.now.came) in
+    → (f : Stands c first opening start taken s) (g : Stands c second opening start taken' t) → s.ended ≡ None → NoPage (taken' ++ t.pending) → Further f.between g.between → A
+left_behind c first second opening start taken taken' s t same few f g live unpaged further =
+    let came = came_at c second start f.between further.more further.link (subst (Came c second start) further.is (g.now.came unpaged)) in
     let q : Item → Bool = λ (i : Item). nexts c (last_id start f.between) i in
     let there : list_any q first ≡ true = sym (list_any-IsPermutation q second first same) ∙ any_less q (λ (i : Item). is_id i.id further.link.id) second came in
     let none : list_any q first ≡ false = ap (λ p. list_any (nexts c p) first) f.now.place.to_is ∙ ap (list_any (nexts c f.at)) (sym (all_last first few)) ∙ none_any (nexts c f.at) (last_items first) (f.none live) in
@@ -276,9 +278,9 @@ left_behind c first second opening start taken taken' s t same few f g live furt
 
 -- two holds of one specification stand at one place
 same_stands : (c : Chain) (first second : List Item) (opening start : List ℕ) (taken taken' : List Piece) (s t : State) → AreDistinct c.root c.links → IsPermutation first second → length first ≤ 4096 → length second ≤ 4096
-    → Stands c first opening start taken s → Stands c second opening start taken' t → s.ended ≡ None → t.ended ≡ None
+    → Stands c first opening start taken s → Stands c second opening start taken' t → s.ended ≡ None → t.ended ≡ None → NoPage (taken ++ s.pending) → NoPage (taken' ++ t.pending)
     → (text (taken ++ s.pending) ≡ text (taken' ++ t.pending)) × (s.position ≡ t.position)
-same_stands c first second opening start taken taken' s t d same few few' f g live live' =
+same_stands c first second opening start taken taken' s t d same few few' f g live live' unpaged unpaged' =
     let a = f.now.place in
     let b = g.now.place in
     let place = one_place c.root a.before (f.between ++ a.rest) b.before (g.between ++ b.rest) (subst (AreDistinct c.root) a.whole d) (sym a.whole ∙ b.whole) (a.from_is ∙ sym b.from_is) in
@@ -287,8 +289,8 @@ same_stands c first second opening start taken taken' s t d same few few' f g li
       f.now.bytes ∙ ap (λ ls. opening ++ bytes_of ls) e ∙ sym g.now.bytes,
       f.now.position_is ∙ ap Some (sym a.to_is ∙ ap (last_id start) e ∙ b.to_is) ∙ sym g.now.position_is,
     ))
-    (λ e. left_behind c first second opening start taken taken' s t (IsPermutation-sym first second same) few f g live e)
-    (λ e. left_behind c second first opening start taken' taken t s same few' g f live' e)
+    (λ e. left_behind c first second opening start taken taken' s t (IsPermutation-sym first second same) few f g live unpaged' e)
+    (λ e. left_behind c second first opening start taken' taken t s same few' g f live' unpaged e)
 
 same_some : {spec other : HoldSpec} → Some spec ≡ Some other → spec ≡ other
 same_some e = cc e
@@ -297,7 +299,7 @@ same_stream : {opening opening' channel start start' : List ℕ} {link link' : B
 same_stream e = (cc e, cc e)
 
 pub order_law_holds : OrderLaw
-order_law_holds = λ c attaches first second number h k attach within few few' same at v live at' v' live'.
+order_law_holds = λ c attaches first second number h k attach within few few' same at v unpaged live at' v' unpaged' live'.
     let all = recursion_from_All (λ (e : Entry). Attaches e.event) attaches attach in
     let ps = published_is attaches first all few in
     let qs = published_is attaches second all few' in
@@ -311,5 +313,5 @@ order_law_holds = λ c attaches first second number h k attach within few few' s
     let f = covered_stands c (attaches ++ first) number h at v in
     let g = covered_stands c (attaches ++ second) number k at' v' in
     let g' = subst (λ o. Stands c items' o v.start k.taken k.state) (sym both.0) (subst (λ p. Stands c items' v'.opening p k.taken k.state) (sym both.1) g) in
-    let alike = same_stands c items items' v.opening v.start h.taken k.taken h.state k.state v.distinct perm short short' f g' live live' in
+    let alike = same_stands c items items' v.opening v.start h.taken k.taken h.state k.state v.distinct perm short short' f g' live live' unpaged unpaged' in
     record { text = alike.0; position = alike.1 }

@@ -9,8 +9,8 @@ use Rattle.gp_plain.specs.declared.event.Entry.{Entry}
 use Rattle.gp_plain.specs.declared.event.Event.{Event}
 use Rattle.gp_plain.specs.declared.event.Event.TheVariants.{Attach, Publish, Take, Page, PageFailed, Push, Join, Leave, Detach}
 use Rattle.gp_plain.specs.Follow.{last_items, is_repeat}
-use Rattle.gp_plain.specs.Holds.{State, Held, is_live, offered, grew, settled_if, begun, taken_from, let_go}
-use Rattle.gp_plain.specs.History.{Past, has_place, changed_if, changed, served_by, with_item, with_hold, after_event, after, nothing, past_of, held}
+use Rattle.gp_plain.specs.Holds.{State, Held, is_live, offered, grew, settled_if, begun, taken_from, paged_from, failed, let_go}
+use Rattle.gp_plain.specs.History.{Past, page_of, has_place, changed_if, changed, served_by, with_item, with_hold, after_event, after, nothing, past_of, held}
 use Rattle.gp_plain.specs.Others.{Share, share_of, share_at, shares_from, IsOfAnother, OthersLaw, OwnersLaw, ReleasedLaw}
 use Rattle.gp_plain.proofs.Histories.{all_at}
 use Rattle.gp_plain.proofs.Released.{have_ended}
@@ -81,8 +81,10 @@ module _ {A : Type 0} where
   one_keeps v x past who (Publish item) n k e = publish_keeps v x past item (is_repeat (last_items past.published) item) n (k.serve item) e
   one_keeps v x past who (Take hold now) n k e = changed_keeps v x who hold (taken_from now) past.holds n (k.change (taken_from now)) e
   one_keeps v x past who (Detach hold) n k e = changed_keeps v x who hold let_go past.holds n (k.change let_go) e
-  one_keeps v x past who (Page hold from to bytes then) n k e = e
-  one_keeps v x past who (PageFailed hold) n k e = e
+  one_keeps v x past who (Page hold from to bytes then) n k e =
+      let f = paged_from (last_items past.published) (page_of from to bytes then) in
+      changed_keeps v x who hold f past.holds n (k.change f) e
+  one_keeps v x past who (PageFailed hold) n k e = changed_keeps v x who hold failed past.holds n (k.change failed) e
   one_keeps v x past who (Push hold message) n k e = e
   one_keeps v x past who (Join hold channel) n k e = e
   one_keeps v x past who (Leave hold channel) n k e = e
@@ -156,8 +158,8 @@ one_shares owner who past (Attach spec) ne = attached_shares owner past (begun w
 one_shares owner who past (Publish item) ne = published_shares owner past item (is_repeat (last_items past.published) item)
 one_shares owner who past (Take hold now) ne = changed_shares owner who 0 hold (taken_from now) past.holds ne (λ h. refl)
 one_shares owner who past (Detach hold) ne = changed_shares owner who 0 hold let_go past.holds ne (λ h. refl)
-one_shares owner who past (Page hold from to bytes then) ne = refl
-one_shares owner who past (PageFailed hold) ne = refl
+one_shares owner who past (Page hold from to bytes then) ne = changed_shares owner who 0 hold (paged_from (last_items past.published) (page_of from to bytes then)) past.holds ne (λ h. refl)
+one_shares owner who past (PageFailed hold) ne = changed_shares owner who 0 hold failed past.holds ne (λ h. refl)
 one_shares owner who past (Push hold message) ne = refl
 one_shares owner who past (Join hold channel) ne = refl
 one_shares owner who past (Leave hold channel) ne = refl

@@ -1,5 +1,5 @@
 -- A released hold has ended.
-use Rattle.std.proofs.Common.{◌≡◌, ℕ, Bool, true, false, cond, not, ◌||◌, nat_le, List, [], ◌∷◌, ◌++◌, refl, sym, ◌∙◌, Option, Some, None, is_some}
+use Rattle.std.proofs.Common.{◌≡◌, ℕ, Bool, true, false, cond, not, ◌||◌, nat_le, List, [], ◌∷◌, ◌++◌, refl, sym, ap, ◌∙◌, Option, Some, None, is_some}
 use Rattle.std.specs.List.{AllByRecursion}
 use Rattle.gp_plain.specs.declared.item.Item.{Item}
 use Rattle.gp_plain.specs.declared.event.Entry.{Entry}
@@ -10,8 +10,11 @@ use Rattle.gp_plain.specs.Pieces.{left}
 use Rattle.gp_plain.specs.Follow.{last_items}
 use Rattle.gp_plain.specs.Holds.{State, Held, is_live, offered, settled_if, grew, timed, ends_now, taken_of, after_take}
 use Rattle.gp_plain.specs.History.{held}
-use Rattle.gp_plain.proofs.ChainLaw.{absurd_true}
 use Rattle.gp_plain.proofs.Histories.{IsKept, in_each_history}
+use Rattle.gp_plain.proofs.Paging.{page_dead, failure_dead}
+
+absurd_true : {A : Type 0} → false ≡ true → A
+absurd_true e = cc
 
 abbrev pub HasEnded : List Item → Held → Type 0
 HasEnded items h = h.released ≡ true → is_live h.state ≡ false
@@ -45,6 +48,8 @@ ended_kept = record {
   fresh = λ items who spec e. absurd_true e;
   serve = λ items item h f e. served_dead item (last_items items) (last_items (items ++ item ∷ [])) h.state (is_live h.state) refl (f e);
   take = λ items now h f e. take_dead now h.state h.released (is_some (taken_of now h.state).ended) f refl e;
+  page = λ items page h f e. ap is_live (page_dead (last_items items) page h.state (f e)) ∙ f e;
+  fail = λ items h f e. ap is_live (failure_dead h.state (f e)) ∙ f e;
   go = λ items h f e. refl;
 }
 

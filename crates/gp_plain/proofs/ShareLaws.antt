@@ -7,8 +7,8 @@ use Rattle.gp_plain.specs.declared.event.Entry.{Entry}
 use Rattle.gp_plain.specs.declared.event.Event.{Event}
 use Rattle.gp_plain.specs.declared.event.Event.TheVariants.{Attach, Publish, Take, Page, PageFailed, Push, Join, Leave, Detach}
 use Rattle.gp_plain.specs.Follow.{last_items, is_repeat}
-use Rattle.gp_plain.specs.Holds.{Held, begun, taken_from, let_go}
-use Rattle.gp_plain.specs.History.{Past, has_place, changed, with_hold, after_event, after, nothing, past_of, held}
+use Rattle.gp_plain.specs.Holds.{Held, begun, taken_from, paged_from, failed, let_go}
+use Rattle.gp_plain.specs.History.{Past, page_of, has_place, changed, with_hold, after_event, after, nothing, past_of, held}
 use Rattle.gp_plain.specs.Order.{Attaches}
 use Rattle.gp_plain.specs.Others.{Share, share_of, share_at, shares_from, IsNoAttachOf, MovesShares, ReleasedShareLaw, ReleasedSharesLaw, MovesLaw}
 use Rattle.gp_plain.proofs.OthersLaw.{released_law_holds, share_if, attached_shares, published_shares, differs}
@@ -72,8 +72,8 @@ one_gone owner who past (Attach spec) not all = attach_gone owner who past (begu
 one_gone owner who past (Publish item) not all = published_shares owner past item (is_repeat (last_items past.published) item)
 one_gone owner who past (Take hold now) not all = changed_gone owner who 0 hold (taken_from now) past.holds (λ h. refl) all
 one_gone owner who past (Detach hold) not all = changed_gone owner who 0 hold let_go past.holds (λ h. refl) all
-one_gone owner who past (Page hold from to bytes then) not all = refl
-one_gone owner who past (PageFailed hold) not all = refl
+one_gone owner who past (Page hold from to bytes then) not all = changed_gone owner who 0 hold (paged_from (last_items past.published) (page_of from to bytes then)) past.holds (λ h. refl) all
+one_gone owner who past (PageFailed hold) not all = changed_gone owner who 0 hold failed past.holds (λ h. refl) all
 one_gone owner who past (Push hold message) not all = refl
 one_gone owner who past (Join hold channel) not all = refl
 one_gone owner who past (Leave hold channel) not all = refl
@@ -91,13 +91,24 @@ released_shares_law_holds = λ seen more owner gone none.
 
 -- events that move no share
 
+same_by : (owner k : ℕ) (f : Held → Held) (h : Held) (rest : List (ℕ × Share)) (kept asked : Bool) → (f h).owner ≡ h.owner → share_of (f h) ≡ share_of h
+    → share_if owner k (cond kept (cond asked (f h) h) h) rest ≡ share_if owner k h rest
+same_by owner k f h rest true true own same = ap (λ n. cond (n == owner) ((k, share_of (f h)) ∷ rest) rest) own ∙ ap (λ s. cond (h.owner == owner) ((k, s) ∷ rest) rest) same
+same_by owner k f h rest true false own same = refl
+same_by owner k f h rest false asked own same = refl
+
+changed_same : (owner who k m : ℕ) (f : Held → Held) (hs : List Held) → ((h : Held) → (f h).owner ≡ h.owner) → ((h : Held) → share_of (f h) ≡ share_of h) → shares_from owner k (changed who m f hs) ≡ shares_from owner k hs
+changed_same owner who k m f [] own same = refl
+changed_same owner who k zero f (h ∷ hs) own same = same_by owner k f h (shares_from owner (k + 1) hs) (not h.released) (h.owner == who) (own h) (same h)
+changed_same owner who k (suc m) f (h ∷ hs) own same = ap (share_if owner k h) (changed_same owner who (k + 1) m f hs own same)
+
 one_moves : (owner who : ℕ) (past : Past) (event : Event) → (MovesShares event → ⊥) → shares_from owner 0 (after_event past who event).holds ≡ shares_from owner 0 past.holds
 one_moves owner who past (Attach spec) not = absurd (not tt)
 one_moves owner who past (Publish item) not = published_shares owner past item (is_repeat (last_items past.published) item)
 one_moves owner who past (Take hold now) not = absurd (not tt)
 one_moves owner who past (Detach hold) not = absurd (not tt)
-one_moves owner who past (Page hold from to bytes then) not = refl
-one_moves owner who past (PageFailed hold) not = refl
+one_moves owner who past (Page hold from to bytes then) not = changed_same owner who 0 hold (paged_from (last_items past.published) (page_of from to bytes then)) past.holds (λ h. refl) (λ h. refl)
+one_moves owner who past (PageFailed hold) not = changed_same owner who 0 hold failed past.holds (λ h. refl) (λ h. refl)
 one_moves owner who past (Push hold message) not = refl
 one_moves owner who past (Join hold channel) not = refl
 one_moves owner who past (Leave hold channel) not = refl

@@ -1,5 +1,5 @@
 -- The position of a hold is the one behind its log, and its terms are those that it was attached with.
-use Rattle.std.proofs.Common.{◌≡◌, ℕ, Bool, true, false, cond, nat_le, List, [], ◌∷◌, ◌++◌, refl, sym, ap, ◌∙◌, append_assoc, Option, Some, None, option_map}
+use Rattle.std.proofs.Common.{◌≡◌, ℕ, Bool, true, false, cond, ◌&&◌, nat_le, List, [], ◌∷◌, ◌++◌, refl, sym, ap, ◌∙◌, append_assoc, Option, Some, None, is_none, option_map}
 use Rattle.std.specs.List.{AllByRecursion}
 use Rattle.std.specs.Option.{option_map_or}
 use Rattle.std.proofs.lemmas.List.{take-append-drop}
@@ -9,10 +9,10 @@ use Rattle.gp_plain.specs.declared.event.Entry.{Entry}
 use Rattle.gp_plain.specs.declared.event.HoldSpec.{HoldSpec}
 use Rattle.gp_plain.specs.declared.event.HoldSpec.TheVariants.{Stream, Plain, Response, Socket}
 use Rattle.gp_plain.specs.declared.reply.Piece.{Piece}
-use Rattle.gp_plain.specs.declared.reply.EndCause.TheVariants.{Overflow, TimedOut, Retry}
+use Rattle.gp_plain.specs.declared.reply.EndCause.TheVariants.{Closed, Unrecovered, Overflow, TimedOut, Retry}
 use Rattle.gp_plain.specs.Pieces.{moved, position_after, end_by, has_room, batch_count, batch, left}
 use Rattle.gp_plain.specs.Follow.{last_items}
-use Rattle.gp_plain.specs.Holds.{State, Held, terms_of, start_of, position_of, is_live, added, run, marked, missed, gapped, can_ask, offered, shows_gap, run_for, settled_if, grew, opened, only_channel, followers, begun_state, timed, rest_of}
+use Rattle.gp_plain.specs.Holds.{State, Held, terms_of, start_of, position_of, RecoveryPage, is_live, added, run, marked, missed, gapped, can_ask, offered, shows_gap, run_for, settled_if, grew, opened, only_channel, followers, begun_state, timed, rest_of, page_refusal, begins_at, is_end, is_next, page_run, closed_behind, marked_anew, with_page, with_stale}
 use Rattle.gp_plain.specs.History.{held, published}
 use Rattle.gp_plain.proofs.Histories.{IsKept, in_each_history}
 
@@ -92,6 +92,31 @@ taken_again taken pending = append_assoc taken (batch pending) (left pending) �
 rest_fits : (spec : HoldSpec) (taken : List Piece) (s : State) → Fits spec taken s → Fits spec (taken ++ batch s.pending) (rest_of s)
 rest_fits spec taken s f = record { terms_are = f.terms_are; position_is = f.position_is ∙ ap (position_of spec) (sym (taken_again taken s.pending)) }
 
+-- pages
+
+closed_fits : (spec : HoldSpec) (taken : List Piece) (s : State) (closes : Bool) → Fits spec taken s → Fits spec taken (cond closes (record s { ended = Some Closed }) s)
+closed_fits spec taken s true f = record { terms_are = f.terms_are; position_is = f.position_is }
+closed_fits spec taken s false f = f
+
+anew_fits : (spec : HoldSpec) (taken : List Piece) (s : State) (next missed_more : Bool) (window : List Item) → Fits spec taken s → Fits spec taken (marked_anew next missed_more window s)
+anew_fits spec taken s next missed_more window f = record { terms_are = f.terms_are; position_is = f.position_is }
+
+page_fits : (spec : HoldSpec) (taken : List Piece) (window : List Item) (page : RecoveryPage) (s : State) → Fits spec taken s → Fits spec taken (with_page window page s)
+page_fits spec taken window page s f =
+    let t = run s (page_run s.terms page window) in
+    anew_fits spec taken (closed_behind (is_end page.follows) t) (is_next page.follows) s.late window
+    (closed_fits spec taken t (is_end page.follows && is_live t) (run_fits spec taken s (page_run s.terms page window) f))
+
+paged_fits : (spec : HoldSpec) (taken : List Piece) (window : List Item) (page : RecoveryPage) (s : State) (may begins : Bool) → Fits spec taken s
+    → Fits spec taken (cond may (cond begins (with_page window page s) (with_stale window s)) s)
+paged_fits spec taken window page s true true f = page_fits spec taken window page s f
+paged_fits spec taken window page s true false f = anew_fits spec taken s false true window f
+paged_fits spec taken window page s false begins f = f
+
+failed_fits : (spec : HoldSpec) (taken : List Piece) (s : State) (may : Bool) → Fits spec taken s → Fits spec taken (cond may (record s { ended = Some Unrecovered }) s)
+failed_fits spec taken s true f = record { terms_are = f.terms_are; position_is = f.position_is }
+failed_fits spec taken s false f = f
+
 abbrev pub IsSound : List Item → Held → Type 0
 IsSound items h = Fits h.spec h.taken h.state
 
@@ -100,6 +125,8 @@ sound = record {
   fresh = λ items who spec. begun_fits spec (last_items items);
   serve = λ items item h f. served_fits h.spec h.taken item (last_items items) (last_items (items ++ item ∷ [])) h.state (is_live h.state) f;
   take = λ items now h f. rest_fits h.spec h.taken (timed now h.state.terms.deadline h.state) (timed_fits h.spec h.taken now h.state h.state.terms.deadline f);
+  page = λ items page h f. paged_fits h.spec h.taken (last_items items) page h.state (is_none (page_refusal h.state)) (begins_at h.state.position page.from) f;
+  fail = λ items h f. failed_fits h.spec h.taken h.state (is_none (page_refusal h.state)) f;
   go = λ items h f. record { terms_are = f.terms_are; position_is = f.position_is };
 }
 

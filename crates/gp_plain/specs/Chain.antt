@@ -3,12 +3,14 @@ use Rattle.std.specs.Prelude.{ℕ, ◌≡◌, ◌≢◌, Bool, false, List, [], 
 use Rattle.std.specs.List.{list_any}
 use Rattle.gp_plain.specs.Items.{content_of, closes, goes_on_from}
 use Rattle.gp_plain.specs.Pieces.{text}
-use Rattle.gp_plain.specs.Holds.{Held, log, position, ended}
+use Rattle.gp_plain.specs.Holds.{Held, RecoveryPage, log, position, ended}
 use Rattle.gp_plain.specs.History.{held, published, window}
 use Rattle.gp_plain.specs.declared.item.Item.{Item}
 use Rattle.gp_plain.specs.declared.item.StreamPart.{StreamPart}
 use Rattle.gp_plain.specs.declared.event.Entry.{Entry}
 use Rattle.gp_plain.specs.declared.event.HoldSpec.TheVariants.{Stream}
+use Rattle.gp_plain.specs.declared.event.Then.{Then}
+use Rattle.gp_plain.specs.declared.event.Then.TheVariants.{Hold as HoldOn, Next, End}
 use Rattle.gp_plain.specs.declared.reply.Piece.{Piece}
 use Rattle.gp_plain.specs.declared.reply.EndCause.{EndCause}
 
@@ -73,8 +75,30 @@ CoversIds chain None prev stream = Unit {0}
 abbrev pub CoversItem : Chain → Item → Type 0
 CoversItem chain item = item.channel ≡ chain.channel → CoversIds chain item.id item.prev item.stream
 
+abbrev pub NoneCloses : List Link → Type 0
+NoneCloses [] = Unit {0}
+NoneCloses (l ∷ links) = (closes l.stream ≡ false) × NoneCloses links
+
+-- a close stands among links only as the last
+abbrev pub ClosesLast : List Link → Type 0
+ClosesLast links = (front : List Link) (l : Link) → links ≡ front ++ l ∷ [] → NoneCloses front
+
+-- none of a page's items is a close, but the last where the stream ends with the page
+abbrev pub ClosesBy : Then → List Link → Type 0
+ClosesBy HoldOn links = NoneCloses links
+ClosesBy Next links = NoneCloses links
+ClosesBy End links = ClosesLast links
+
+-- a page is honest: it goes from an id of the chain to another at or after it, and has the contents between them
+pub record IsHonest (chain : Chain) (page : RecoveryPage) : Type 0 where
+  pub between : List Link
+  pub place : IsBetween chain page.from page.to between
+  pub bytes : page.bytes ≡ bytes_of between
+  pub closes : ClosesBy page.follows between
+
 -- a chain covers a reliable stream hold of a history: it is on the hold's channel, the hold's first position is one of
--- its ids, and every chained item that was published on the channel, and wasn't a repeat, stands in it
+-- its ids, every chained item that was published on the channel, and wasn't a repeat, stands in it, and every page that
+-- the hold accepted is honest
 pub record Covers (chain : Chain) (entries : List Entry) (number : ℕ) (h : Held) : Type 0 where
   pub opening : List ℕ
   pub start : List ℕ
@@ -83,10 +107,7 @@ pub record Covers (chain : Chain) (entries : List Entry) (number : ℕ) (h : Hel
   pub channel : h.spec ≡ Stream opening chain.channel start link
   pub root : IsIn chain start
   pub published : All (CoversItem chain) (published entries)
-
-abbrev pub NoneCloses : List Link → Type 0
-NoneCloses [] = Unit {0}
-NoneCloses (l ∷ links) = (closes l.stream ≡ false) × NoneCloses links
+  pub pages : All (IsHonest chain) h.pages
 
 -- a log has the opening, and then the contents of the chain's items after the first position, in order, each once
 -- and none skipped, up to its position. A close stands among them only as the last, and the hold has then ended
@@ -97,7 +118,7 @@ pub record FollowsLog (chain : Chain) (opening start : List ℕ) (pieces : List 
   pub place : IsBetween chain start at between
   pub bytes : text pieces ≡ opening ++ bytes_of between
   pub still_open : ended ≡ None → NoneCloses between
-  pub closes_last : (front : List Link) (l : Link) → between ≡ front ++ l ∷ [] → NoneCloses front
+  pub closes_last : ClosesLast between
 
 -- each hold of a history that a chain covers follows it
 abbrev pub FollowsChains : List Entry → Type 0

@@ -93,8 +93,8 @@ abbrev pub is_built : Event → Bool
 is_built (Attach spec) = is_built_spec spec
 is_built (Publish item) = true
 is_built (Take hold now) = true
-is_built (Page hold from to bytes then) = false
-is_built (PageFailed hold) = false
+is_built (Page hold from to bytes then) = true
+is_built (PageFailed hold) = true
 is_built (Push hold message) = false
 is_built (Join hold channel) = false
 is_built (Leave hold channel) = false

@@ -3,10 +3,11 @@ use Rattle.std.specs.Prelude.{ℕ, zero, suc, Bool, cond, not, nat_lt, ◌==◌,
 use Rattle.std.specs.Option.{option_map_or}
 use Rattle.gp_plain.specs.Pieces.{id_or}
 use Rattle.gp_plain.specs.Follow.{last_items, is_repeat}
-use Rattle.gp_plain.specs.Holds.{Held, begun, pending, position, ended, served, grew, taken_of, taken_from, let_go}
+use Rattle.gp_plain.specs.Holds.{Held, RecoveryPage, begun, pending, position, ended, served, grew, taken_of, taken_from, paged_from, page_reply, failed, failure_reply, let_go}
 use Rattle.gp_plain.specs.declared.item.Item.{Item}
 use Rattle.gp_plain.specs.declared.event.Entry.{Entry}
 use Rattle.gp_plain.specs.declared.event.Event.{Event}
+use Rattle.gp_plain.specs.declared.event.Then.{Then}
 use Rattle.gp_plain.specs.declared.event.Event.TheVariants.{Attach, Publish, Take, Page, PageFailed, Push, Join, Leave, Detach}
 use Rattle.gp_plain.specs.declared.reply.Piece.{Piece}
 use Rattle.gp_plain.specs.declared.reply.EndCause.{EndCause}
@@ -76,14 +77,17 @@ with_hold past hold = record past { holds = past.holds ++ hold ∷ [] }
 abbrev pub with_holds : Past → List Held → Past
 with_holds past holds = record past { holds = holds }
 
+abbrev pub page_of : List ℕ → List ℕ → List ℕ → Then → RecoveryPage
+page_of from to bytes follows = record { from = from; to = to; bytes = bytes; follows = follows }
+
 -- what an event does
 abbrev pub after_event : Past → ℕ → Event → Past
 after_event past who (Attach spec) = cond (has_place past.holds) (with_hold past (begun who spec (last_items past.published))) past
 after_event past who (Publish item) = cond (is_repeat (last_items past.published) item) past (with_item past item)
 after_event past who (Take hold now) = with_holds past (changed who hold (taken_from now) past.holds)
 after_event past who (Detach hold) = with_holds past (changed who hold let_go past.holds)
-after_event past who (Page hold from to bytes then) = past
-after_event past who (PageFailed hold) = past
+after_event past who (Page hold from to bytes then) = with_holds past (changed who hold (paged_from (last_items past.published) (page_of from to bytes then)) past.holds)
+after_event past who (PageFailed hold) = with_holds past (changed who hold failed past.holds)
 after_event past who (Push hold message) = past
 after_event past who (Join hold channel) = past
 after_event past who (Leave hold channel) = past
@@ -119,8 +123,8 @@ answer past who (Attach spec) = cond (has_place past.holds) (Attached (length pa
 answer past who (Publish item) = cond (is_repeat (last_items past.published) item) (Repeat (id_or item.id [])) (Published (grown_count past item))
 answer past who (Take hold now) = refused_or who hold (kept_at past.holds hold) (λ (h : Held). Taken (taken_of now h.state))
 answer past who (Detach hold) = refused_or who hold (kept_at past.holds hold) (λ (h : Held). Done)
-answer past who (Page hold from to bytes then) = Done
-answer past who (PageFailed hold) = Done
+answer past who (Page hold from to bytes then) = refused_or who hold (kept_at past.holds hold) (λ (h : Held). page_reply from h.state)
+answer past who (PageFailed hold) = refused_or who hold (kept_at past.holds hold) (λ (h : Held). failure_reply h.state)
 answer past who (Push hold message) = Done
 answer past who (Join hold channel) = Done
 answer past who (Leave hold channel) = Done

@@ -1,10 +1,11 @@
 -- A hold, and what happens to it.
-use Rattle.std.specs.Prelude.{ℕ, ◌+◌, Bool, true, false, cond, nat_le, nat_lt, not, ◌&&◌, ◌||◌, List, [], ◌∷◌, ◌++◌, length, map, fold, Option, Some, None, is_some, option_map}
+use Rattle.std.specs.Prelude.{ℕ, ◌+◌, Bool, true, false, cond, nat_le, nat_lt, not, ◌&&◌, ◌||◌, List, [], ◌∷◌, ◌++◌, length, map, fold, Option, Some, None, is_some, is_none, option_map}
 use Rattle.std.specs.Option.{option_map_or, option_to_list}
+use Rattle.gp_plain.specs.Names.{same_id}
 use Rattle.gp_plain.specs.Items.{is_chained, is_id, comes_after, content_of, closes}
 use Rattle.gp_plain.specs.Follow.{is_heard, follow}
 use Rattle.gp_plain.specs.Tails.{ahead}
-use Rattle.gp_plain.specs.Pieces.{moved, position_after, end_by, has_room, batch, left}
+use Rattle.gp_plain.specs.Pieces.{id_or, moved, position_after, end_by, has_room, batch, left}
 use Rattle.gp_plain.specs.declared.item.Item.{Item}
 use Rattle.gp_plain.specs.declared.item.ResponsePart.{ResponsePart}
 use Rattle.gp_plain.specs.declared.item.StreamPart.{StreamPart}
@@ -12,11 +13,15 @@ use Rattle.gp_plain.specs.declared.event.HoldKind.{HoldKind}
 use Rattle.gp_plain.specs.declared.event.HoldKind.TheVariants.{Stream as StreamKind, Plain as PlainKind, Response as ResponseKind, Socket as SocketKind}
 use Rattle.gp_plain.specs.declared.event.HoldSpec.{HoldSpec}
 use Rattle.gp_plain.specs.declared.event.HoldSpec.TheVariants.{Stream, Plain, Response, Socket}
+use Rattle.gp_plain.specs.declared.event.Then.{Then}
+use Rattle.gp_plain.specs.declared.event.Then.TheVariants.{Hold as HoldOn, Next, End}
 use Rattle.gp_plain.specs.declared.reply.Piece.{Piece}
-use Rattle.gp_plain.specs.declared.reply.Piece.TheVariants.{Opening, Item as ItemPiece, Answer as AnswerPiece}
+use Rattle.gp_plain.specs.declared.reply.Piece.TheVariants.{Opening, Item as ItemPiece, Page as PagePiece, Answer as AnswerPiece}
 use Rattle.gp_plain.specs.declared.reply.EndCause.{EndCause}
-use Rattle.gp_plain.specs.declared.reply.EndCause.TheVariants.{Detached, Gap, Overflow, Retry, TimedOut}
+use Rattle.gp_plain.specs.declared.reply.EndCause.TheVariants.{Closed, Detached, Gap, Unrecovered, Overflow, Retry, TimedOut}
 use Rattle.gp_plain.specs.declared.reply.Taken.{Taken}
+use Rattle.gp_plain.specs.declared.reply.Reply.{Reply}
+use Rattle.gp_plain.specs.declared.reply.Reply.TheVariants.{Paged, Stale, Done, Gone, OtherKind}
 
 -- what a hold listens to: its kind, its channels, whether missing items can be asked of the origin, and the deadline
 -- of a response hold
@@ -66,13 +71,21 @@ pub record State : Type 0 where
   pub late : Bool
   pub misses : ℕ
 
+-- a page of a recovery: from one id to another, the contents between them, and what follows it
+pub record RecoveryPage : Type 0 where
+  pub from : List ℕ
+  pub to : List ℕ
+  pub bytes : List ℕ
+  pub follows : Then
+
 -- a hold that was ever attached: what was taken and what waits are together its log. The positions are kept that Takes
--- answered as those to recover from, and the end that a Take told
+-- answered as those to recover from, the pages that were accepted, and the end that a Take told
 pub record Held : Type 0 where
   pub owner : ℕ
   pub spec : HoldSpec
   pub taken : List Piece
   pub recovers : List (List ℕ)
+  pub pages : List RecoveryPage
   pub told : Option EndCause
   pub released : Bool
   pub state : State
@@ -241,7 +254,7 @@ begun_state spec window =
     record s { want = is_live s && wants_more spec && is_ahead s.terms s.position window }
 
 abbrev pub begun : ℕ → HoldSpec → List Item → Held
-begun who spec window = record { owner = who; spec = spec; taken = []; recovers = []; told = None; released = false; state = begun_state spec window }
+begun who spec window = record { owner = who; spec = spec; taken = []; recovers = []; pages = []; told = None; released = false; state = begun_state spec window }
 
 -- a Take at or behind its deadline ends a response hold that has no answer; before it one that missed items is to be
 -- repeated
@@ -299,3 +312,90 @@ end_or_detached None = Detached
 -- a hold that is let go ends, if it hasn't, and is released with what waits
 abbrev pub let_go : Held → Held
 let_go h = record h { released = true; state = record h.state { ended = Some (end_or_detached h.state.ended) } }
+
+-- an event on a hold that ended is refused, and so is one that its kind doesn't have
+abbrev pub other_kind : Bool → HoldKind → Option Reply
+other_kind true kind = None
+other_kind false kind = Some (OtherKind kind)
+
+abbrev pub refusal : Option EndCause → Bool → HoldKind → Option Reply
+refusal (Some cause) has kind = Some (Gone cause)
+refusal None has kind = other_kind has kind
+
+abbrev pub reply_or : Option Reply → Reply → Reply
+reply_or (Some refused) reply = refused
+reply_or None reply = reply
+
+abbrev pub is_stream : HoldKind → Bool
+is_stream StreamKind = true
+is_stream PlainKind = false
+is_stream ResponseKind = false
+is_stream SocketKind = false
+
+-- pages are for live reliable streams
+abbrev pub page_refusal : State → Option Reply
+page_refusal s = refusal s.ended (is_stream s.terms.kind) s.terms.kind
+
+-- the page begins at the position
+abbrev pub begins_at : Option (List ℕ) → List ℕ → Bool
+begins_at None from = false
+begins_at (Some at) from = same_id from at
+
+abbrev pub takes_page : State → List ℕ → Bool
+takes_page s from = is_none (page_refusal s) && begins_at s.position from
+
+abbrev pub is_end : Then → Bool
+is_end HoldOn = false
+is_end Next = false
+is_end End = true
+
+abbrev pub is_next : Then → Bool
+is_next HoldOn = false
+is_next Next = true
+is_next End = false
+
+-- the pieces that a page brings: itself, and then, unless the stream ends with it, those of the window that follow it
+abbrev pub page_run : Terms → RecoveryPage → List Item → List Piece
+page_run terms page window =
+    PagePiece page.from page.to page.bytes ∷ cond (is_end page.follows) [] (followers terms.kind (only_channel terms.channels) page.to window)
+
+-- the last page closes a hold that lives behind it
+abbrev pub closed_behind : Bool → State → State
+closed_behind last s = cond (last && is_live s) (record s { ended = Some Closed }) s
+
+-- the marks behind a page: nothing is asked any more, and nothing was late. A hold with a link wants to ask where there is
+-- a next page, and where it may have missed more and the window shows that more is ahead
+abbrev pub marked_anew : Bool → Bool → List Item → State → State
+marked_anew next missed_more window s =
+    record s { want = s.terms.link && (next || (missed_more && is_ahead s.terms s.position window)); asked = false; late = false }
+
+-- a page that begins at the position
+abbrev pub with_page : List Item → RecoveryPage → State → State
+with_page window page s =
+    marked_anew (is_next page.follows) s.late window (closed_behind (is_end page.follows) (run s (page_run s.terms page window)))
+
+-- a page that begins elsewhere adds nothing
+abbrev pub with_stale : List Item → State → State
+with_stale window s = marked_anew false true window s
+
+-- what a page does
+abbrev pub after_page : List Item → RecoveryPage → State → State
+after_page window page s =
+    cond (is_none (page_refusal s)) (cond (begins_at s.position page.from) (with_page window page s) (with_stale window s)) s
+
+abbrev pub paged_from : List Item → RecoveryPage → Held → Held
+paged_from window page h =
+    record h { pages = cond (takes_page h.state page.from) (h.pages ++ page ∷ []) h.pages; state = after_page window page h.state }
+
+abbrev pub page_reply : List ℕ → State → Reply
+page_reply from s = reply_or (page_refusal s) (cond (begins_at s.position from) Paged (Stale from (id_or s.position [])))
+
+-- a page that can't be had ends the hold
+abbrev pub after_failure : State → State
+after_failure s = cond (is_none (page_refusal s)) (record s { ended = Some Unrecovered }) s
+
+abbrev pub failed : Held → Held
+failed h = record h { state = after_failure h.state }
+
+abbrev pub failure_reply : State → Reply
+failure_reply s = reply_or (page_refusal s) Done

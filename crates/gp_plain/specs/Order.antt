@@ -2,7 +2,7 @@
 use Rattle.std.specs.Prelude.{ℕ, ◌≡◌, ◌<◌, ◌&&◌, IsPermutation, Bool, true, not, List, [], ◌∷◌, ◌++◌, length, slice_get, Some, None, All}
 use Rattle.std.specs.List.{flat_map}
 use Rattle.gp_plain.specs.Follow.{is_repeat}
-use Rattle.gp_plain.specs.Pieces.{text}
+use Rattle.gp_plain.specs.Pieces.{text, NoPage}
 use Rattle.gp_plain.specs.Holds.{Held, log, position, ended}
 use Rattle.gp_plain.specs.History.{held}
 use Rattle.gp_plain.specs.Chain.{Chain, Covers}
@@ -53,12 +53,13 @@ pub record HaveSame (h k : Held) : Type 0 where
   pub position : position h ≡ position k
 
 -- the law of order: two histories that begin with the same attaches, and that publish the same items in any order, leave
--- each hold of those attaches, which a chain covers in both and which ended in neither, with the same text and position
+-- each hold of those attaches, which a chain covers in both, whose log has no page in either, and which ended in neither,
+-- with the same text and position
 abbrev pub OrderLaw : Type 0
 OrderLaw =
     (chain : Chain) (attaches first second : List Entry) (number : ℕ) (h k : Held)
     → All (λ (entry : Entry). Attaches entry.event) attaches → number < length (held attaches)
     → AreFew (sent first) → AreFew (sent second) → IsPermutation (sent first) (sent second)
-    → slice_get (held (attaches ++ first)) number ≡ Some h → Covers chain (attaches ++ first) number h → ended h ≡ None
-    → slice_get (held (attaches ++ second)) number ≡ Some k → Covers chain (attaches ++ second) number k → ended k ≡ None
+    → slice_get (held (attaches ++ first)) number ≡ Some h → Covers chain (attaches ++ first) number h → NoPage (log h) → ended h ≡ None
+    → slice_get (held (attaches ++ second)) number ≡ Some k → Covers chain (attaches ++ second) number k → NoPage (log k) → ended k ≡ None
     → HaveSame h k

@@ -10,7 +10,7 @@ use Rattle.gp_plain.specs.declared.event.HoldSpec.{HoldSpec}
 use Rattle.gp_plain.specs.declared.reply.Piece.{Piece}
 use Rattle.gp_plain.specs.declared.reply.EndCause.{EndCause}
 
--- all of a hold but its state: its owner, what it was attached with, what was taken of it, the positions that Takes
+-- all of a hold but its state and the pages that it accepted: its owner, what it was attached with, what was taken of it, the positions that Takes
 -- answered as those to recover from, the end that was told, and whether it was let go
 pub record Share : Type 0 where
   pub owner : ℕ

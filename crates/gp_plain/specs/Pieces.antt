@@ -1,5 +1,5 @@
 -- What a piece of a log says: its bytes, the id that it moves to, and the end that it brings.
-use Rattle.std.specs.Prelude.{ℕ, ◌+◌, ◌-◌, Bool, true, false, cond, max, nat_le, ◌&&◌, List, [], ◌∷◌, length, take, drop, sum_by, fold, Option, Some, None}
+use Rattle.std.specs.Prelude.{ℕ, ◌≡◌, ◌+◌, ◌-◌, Bool, true, false, cond, max, nat_le, ◌&&◌, List, [], ◌∷◌, length, take, drop, sum_by, fold, Option, Some, None}
 use Rattle.std.specs.List.{flat_map}
 use Rattle.gp_plain.specs.declared.item.Message.{Message}
 use Rattle.gp_plain.specs.declared.item.Message.TheVariants.{Text, Binary, Ping, Pong, Close}
@@ -103,3 +103,15 @@ batch pending = take (batch_count pending) pending
 -- the pieces that one Take leaves
 abbrev pub left : List Piece → List Piece
 left pending = drop (batch_count pending) pending
+
+abbrev pub is_page : Piece → Bool
+is_page (Opening bytes) = false
+is_page (ItemPiece to bytes close) = false
+is_page (PagePiece from to bytes) = true
+is_page (MessagePiece message) = false
+is_page (AnswerPiece to part) = false
+
+-- no piece is a page of a recovery
+abbrev pub NoPage : List Piece → Type 0
+NoPage [] = Unit {0}
+NoPage (piece ∷ pieces) = (is_page piece ≡ false) × NoPage pieces

@@ -1,9 +1,9 @@
 -- What was taken of a hold that a chain covers.
-use Rattle.std.specs.Prelude.{ℕ, ◌≡◌, List, [], ◌∷◌, ◌++◌, slice_get, Some}
+use Rattle.std.specs.Prelude.{ℕ, ◌≡◌, List, ◌++◌, slice_get, Some}
 use Rattle.gp_plain.specs.Pieces.{text}
 use Rattle.gp_plain.specs.Holds.{Held}
 use Rattle.gp_plain.specs.History.{held}
-use Rattle.gp_plain.specs.Chain.{Chain, Link, Covers, IsBetween, NoneCloses, bytes_of}
+use Rattle.gp_plain.specs.Chain.{Chain, Link, Covers, IsBetween, ClosesLast, bytes_of}
 use Rattle.gp_plain.specs.declared.event.Entry.{Entry}
 use Rattle.gp_plain.specs.declared.reply.Piece.{Piece}
 
@@ -15,7 +15,7 @@ pub record FollowsTaken (chain : Chain) (opening start : List ℕ) (taken : List
   pub rest : List ℕ
   pub place : IsBetween chain start at between
   pub bytes : text taken ++ rest ≡ opening ++ bytes_of between
-  pub closes_last : (front : List Link) (l : Link) → between ≡ front ++ l ∷ [] → NoneCloses front
+  pub closes_last : ClosesLast between
 
 -- the law of what was taken, of each hold of a history that a chain covers
 abbrev pub TakenLaw : Type 0

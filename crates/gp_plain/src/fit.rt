@@ -154,8 +154,8 @@ impl Event {
             Event::Attach { spec } => spec.is_built(),
             Event::Publish { .. } => true,
             Event::Take { .. } => true,
-            Event::Page { .. } => false,
-            Event::PageFailed { .. } => false,
+            Event::Page { .. } => true,
+            Event::PageFailed { .. } => true,
             Event::Push { .. } => false,
             Event::Join { .. } => false,
             Event::Leave { .. } => false,
@@ -164,7 +164,7 @@ impl Event {
     }
 
     /// Whether it is within the limits, and of a kind that is built: the attach of a stream, a plain hold or a response
-    /// hold, a publication, a take and a detach. It takes no memory.
+    /// hold, a publication, a take, a page or its failure, and a detach. It takes no memory.
     pub fn fits(&self) -> bool
         ensures { result ≡ fits self.now }
     {

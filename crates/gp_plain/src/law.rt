@@ -9,7 +9,8 @@ ghost use Rattle.gp_plain.specs.Others.{MovesLaw, OthersLaw, OwnersLaw, Released
 /// The chain law. In every history, whatever the order of its entries: for every chain that covers a reliable
 /// stream hold, the text of the hold's log is its opening and then the contents of the chain's items between the
 /// hold's previous id and its position, in order, each once, none skipped. A close stands among them only as the
-/// last, and the hold has then ended.
+/// last, and the hold has then ended. A chain covers a hold only where the pages that the hold accepted are honest: each
+/// has the contents of the chain's items between its two ids. Stale pages, and several pages, may stand anywhere.
 pub fn chain_law()
     ensures { ChainLaw }
 {}
@@ -29,8 +30,8 @@ pub fn window_law()
 
 /// The law of order. Two histories that begin with the same attaches, and that then publish the same items in any
 /// order, fewer than 4,096 and no two of a channel with one id, leave each reliable stream hold of those attaches,
-/// which one chain covers in both and which ended in neither, with the same text and the same position. Takes and
-/// other attaches may stand anywhere behind the first.
+/// which one chain covers in both, whose log has no page of a recovery in either, and which ended in neither, with the
+/// same text and the same position. Takes, other attaches and pages of other holds may stand anywhere behind the first.
 pub fn order_law()
     ensures { OrderLaw }
 {}
