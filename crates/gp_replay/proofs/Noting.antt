@@ -15,8 +15,8 @@ use Rattle.gp_plain.specs.declared.reply.Reply.{Reply}
 use Rattle.gp_plain.specs.declared.reply.Reply.TheVariants.{Attached, Full, Published, Repeat, Taken, Paged, Stale, Done, Foreign, Gone, OtherKind, Unknown}
 use Rattle.gp_plain.specs.Pieces.{piece_bytes, moved, position_after, batch, left, text}
 use Rattle.gp_plain.specs.Follow.{last_items, is_repeat}
-use Rattle.gp_plain.specs.Holds.{State, Held, pending, position, ended, log, start_of, position_of, terms_of, is_live, offered, settled_if, grew, begun, timed, taken_of, taken_from, let_go, end_or_detached, ends_now}
-use Rattle.gp_plain.specs.History.{Past, has_place, if_kept, kept_at, refused_or, changed, served_by, with_item, with_hold, after_event, answer, pending_at, cause_at}
+use Rattle.gp_plain.specs.Holds.{State, Held, pending, position, ended, log, start_of, position_of, terms_of, is_live, offered, settled_if, grew, begun, timed, taken_of, taken_from, paged_from, failed, let_go, end_or_detached, ends_now}
+use Rattle.gp_plain.specs.History.{Past, page_of, has_place, if_kept, kept_at, refused_or, changed, served_by, with_item, with_hold, after_event, answer, pending_at, cause_at}
 use Rattle.gp_script.specs.Texts.{hold_text, piece_text, end_text}
 use Rattle.gp_replay.specs.declared.log.Log.{Log}
 use Rattle.gp_replay.specs.Logs.{log_of, noted_of, begun_if, taken_if, let_go_if, after_note, log_position, whole_text, or_end}
@@ -130,14 +130,28 @@ let_go_logs m n [] = refl
 let_go_logs m zero (h ∷ hs) = let_go_here m h (map log_of hs) h.released refl
 let_go_logs m (suc n) (h ∷ hs) = ap (λ ls. log_of h ∷ ls) (let_go_logs m n hs) ∙ let_go_cons (log_of h) n (pending_at hs n) (end_or_detached (cause_at hs n)) (refused_or 0 m (kept_at hs n) (λ (k : Held). Done)) (map log_of hs)
 
+-- what takes nothing and lets nothing go leaves the logs
+
+same_here : (f : Held → Held) (h : Held) (released own : Bool) → h.released ≡ released → (h.released ≡ false → log_of (f h) ≡ log_of h) → log_of (cond (not released) (cond own (f h) h) h) ≡ log_of h
+same_here f h true own r same = refl
+same_here f h false true r same = same r
+same_here f h false false r same = refl
+
+same_logs : (n : ℕ) (f : Held → Held) (hs : List Held) → ((h : Held) → h.released ≡ false → log_of (f h) ≡ log_of h) → map log_of (changed 0 n f hs) ≡ map log_of hs
+same_logs n f [] same = refl
+same_logs zero f (h ∷ hs) same = ap (λ l. l ∷ map log_of hs) (same_here f h h.released (h.owner == 0) refl (same h))
+same_logs (suc n) f (h ∷ hs) same = ap (λ ls. log_of h ∷ ls) (same_logs n f hs same)
+
 pub noted_law : (past : Past) (event : Event) → AllByRecursion (λ (h : Held). h.released ≡ true → is_live h.state ≡ false) past.holds
     → map log_of (after_event past 0 event).holds ≡ after_note (map log_of past.holds) (noted_of past.holds event) (answer past 0 event)
 noted_law past (Attach spec) all = attached_logs past spec (has_place past.holds) (length past.holds)
 noted_law past (Publish item) all = published_logs past item (is_repeat (last_items past.published) item) all
 noted_law past (Take hold now) all = take_logs now hold hold past.holds
 noted_law past (Detach hold) all = let_go_logs hold hold past.holds
-noted_law past (Page hold from to bytes then) all = refl
-noted_law past (PageFailed hold) all = refl
+noted_law past (Page hold from to bytes then) all =
+    let page = page_of from to bytes then in
+    same_logs hold (paged_from (last_items past.published) page) past.holds (λ h r. log_kept (paged_from (last_items past.published) page h) r ∙ sym (log_kept h r))
+noted_law past (PageFailed hold) all = same_logs hold failed past.holds (λ h r. log_kept (failed h) r ∙ sym (log_kept h r))
 noted_law past (Push hold message) all = refl
 noted_law past (Join hold channel) all = refl
 noted_law past (Leave hold channel) all = refl
