@@ -25,12 +25,13 @@ use Rattle.gp_plain.specs.Names.{same_id}
 use Rattle.gp_plain.specs.Items.{is_chained, is_id, comes_after, content_of, closes, is_on, goes_on_from}
 use Rattle.gp_plain.specs.Follow.{last_items, is_heard, without_first, going_on, follow_within, follow}
 use Rattle.gp_plain.specs.Pieces.{piece_bytes, text, moved, id_or, closed_by, end_by, has_room, batch, is_page, NoPage}
-use Rattle.gp_plain.specs.Holds.{Terms, State, Held, terms_of, is_live, added, run, marked, gapped, can_ask, offered, shows_gap, run_for, piece_of, settled_if, grew, served, opened, begun_state, timed, rest_of, end_or_detached, RecoveryPage, followers, is_stream, refusal, page_refusal, begins_at, takes_page, is_end, is_next, page_run, closed_behind, marked_anew, with_page, with_stale, after_page}
+use Rattle.gp_plain.specs.Holds.{Terms, State, Held, terms_of, is_live, added, run, marked, gapped, can_ask, offered, shows_gap, run_for, piece_of, settled_if, grew, served, opened, begun_state, timed, rest_of, end_or_detached, RecoveryPage, followers, is_stream, refusal, page_refusal, begins_at, takes_page, is_end, is_next, page_run, closed_behind, marked_anew, with_page, with_stale, after_page, SocketChange, is_socket, after_change}
 use Rattle.gp_plain.specs.History.{held, published, window}
 use Rattle.gp_plain.specs.Chain.{Link, Chain, IsNoneOf, AreDistinct, bytes_of, last_id, IsIn, IsLinked, IsBetween, CoversIds, CoversItem, NoneCloses, ClosesLast, ClosesBy, IsHonest, Covers, ChainLaw, WindowLaw}
 use Rattle.gp_plain.proofs.Windows.{drop_all, all_front, all_last, window_more}
 use Rattle.gp_plain.proofs.Histories.{IsKept, in_each_history, all_at}
-use Rattle.gp_plain.proofs.Soundness.{Fits, taken_again, sound}
+use Rattle.gp_plain.proofs.Soundness.{Fits, taken_again, sound, HasTerms}
+use Rattle.gp_plain.proofs.Paging.{live_unrefused, change_other}
 
 pub text-append : (ps qs : List Piece) → text (ps ++ qs) ≡ text ps ++ text qs
 text-append [] qs = refl
@@ -551,7 +552,7 @@ served_stands c items opening start link taken s item true d cov l t f =
     settled_stands c (items ++ item ∷ []) opening start taken (offered item (last_items items) s) (last_items (items ++ item ∷ [])) (grew s (offered item (last_items items) s))
     (offered_stands c items opening start link taken s item d cov (live_by s.ended l) t f)
 
-served_law : (c : Chain) (items : List Item) (spec : HoldSpec) (taken : List Piece) (s : State) (item : Item) → AreDistinct c.root c.links → s.terms ≡ terms_of spec
+served_law : (c : Chain) (items : List Item) (spec : HoldSpec) (taken : List Piece) (s : State) (item : Item) → AreDistinct c.root c.links → HasTerms spec s.terms
     → (AllByRecursion (CoversItem c) items → Covered c items spec taken s) → AllByRecursion (CoversItem c) (items ++ item ∷ [])
     → Covered c (items ++ item ∷ []) spec taken (served item (last_items items) (last_items (items ++ item ∷ [])) s)
 served_law c items (Stream opening channel prev link) taken s item d t f cov = λ same at.
@@ -599,7 +600,7 @@ rest_stands c items opening start taken s f = record {
   none = f.none;
 }
 
-take_law : (c : Chain) (items : List Item) (spec : HoldSpec) (taken : List Piece) (now : ℕ) (s : State) → s.terms ≡ terms_of spec → Covered c items spec taken s
+take_law : (c : Chain) (items : List Item) (spec : HoldSpec) (taken : List Piece) (now : ℕ) (s : State) → HasTerms spec s.terms → Covered c items spec taken s
     → let t = timed now s.terms.deadline s in Covered c items spec (taken ++ batch t.pending) (rest_of t)
 take_law c items (Stream opening channel prev link) taken now s t f = λ same at.
     subst (λ (deadline : Option ℕ). let u = timed now deadline s in Stands c items opening prev (taken ++ batch u.pending) (rest_of u)) (sym (ap (λ (k : Terms). k.deadline) t))
@@ -717,10 +718,6 @@ anew_stands c items opening start taken s next missed_more window f = record {
   none = f.none;
 }
 
-none_refused : (ended : Option EndCause) (has : Bool) (kind : HoldKind) → is_none (refusal ended has kind) ≡ true → ended ≡ None
-none_refused None has kind e = refl
-none_refused (Some cause) has kind e = absurd_true e
-
 honest_front : (c : Chain) (pages : List RecoveryPage) (page : RecoveryPage) → AllByRecursion (IsHonest c) (pages ++ page ∷ []) → AllByRecursion (IsHonest c) pages
 honest_front c [] page all = tt
 honest_front c (x ∷ pages) page all = (all.0, honest_front c pages page all.1)
@@ -743,13 +740,13 @@ stream_page c items opening start link taken pages page s true false d cov t m b
 stream_page c items opening start link taken pages page s true true d cov t m b f honest =
     let w = last_items items in
     let g = f (honest_front c pages page honest) in
-    let n = none_refused s.ended (is_stream s.terms.kind) s.terms.kind m in
+    let n = live_unrefused s.ended (is_stream s.terms.kind) s.terms.kind m in
     let paged = page_stands c items opening start taken s page g (is_live s) (has_room s.pending (piece_of_page page)) (is_end page.follows) d cov (honest_last c pages page honest)
     (begins_there s.position g.at page.from g.now.position_is b) n refl refl in
     anew_stands c items opening start taken (closed_behind (is_end page.follows) (run s (page_run s.terms page w))) (is_next page.follows) s.late w
     (subst (λ (k : Terms). Stands c items opening start taken (closed_behind (is_end page.follows) (run s (page_run k page w)))) (sym t) paged)
 
-page_law : (c : Chain) (items : List Item) (spec : HoldSpec) (taken : List Piece) (pages : List RecoveryPage) (page : RecoveryPage) (s : State) → AreDistinct c.root c.links → s.terms ≡ terms_of spec
+page_law : (c : Chain) (items : List Item) (spec : HoldSpec) (taken : List Piece) (pages : List RecoveryPage) (page : RecoveryPage) (s : State) → AreDistinct c.root c.links → HasTerms spec s.terms
     → AllByRecursion (CoversItem c) items → (AllByRecursion (IsHonest c) pages → Covered c items spec taken s)
     → AllByRecursion (IsHonest c) (cond (takes_page s page.from) (pages ++ page ∷ []) pages) → Covered c items spec taken (after_page (last_items items) page s)
 page_law c items (Stream opening channel prev link) taken pages page s d t cov f honest = λ same at.
@@ -763,6 +760,14 @@ fail_law : (c : Chain) (items : List Item) (spec : HoldSpec) (taken : List Piece
 fail_law c items spec taken s true f = go_law c items spec taken s Unrecovered f
 fail_law c items spec taken s false f = f
 
+-- a socket isn't a stream
+change_law : (c : Chain) (items : List Item) (spec : HoldSpec) (taken : List Piece) (change : SocketChange) (s : State) → HasTerms spec s.terms → Covered c items spec taken s → Covered c items spec taken (after_change change s)
+change_law c items (Stream opening channel prev link) taken change s t f = λ same at.
+    subst (Stands c items opening prev taken) (sym (change_other change s (ap (λ (k : Terms). is_socket k.kind) t))) (f same at)
+change_law c items (Plain opening channels) taken change s t f = tt
+change_law c items (Response channels prev deadline again) taken change s t f = tt
+change_law c items Socket taken change s t f = tt
+
 law_kept : (c : Chain) → AreDistinct c.root c.links → IsKept (Law c)
 law_kept c d = record {
   fresh = λ items who spec. record { fits = sound.fresh items who spec; law = λ cov honest. fresh_law c items spec d cov };
@@ -775,6 +780,7 @@ law_kept c d = record {
     fits = sound.page items page h f.fits;
     law = λ cov honest. page_law c items h.spec h.taken h.pages page h.state d f.fits.terms_are cov (λ all. f.law cov all) honest;
   };
+  change = λ items change h f. record { fits = sound.change items change h f.fits; law = λ cov honest. change_law c items h.spec h.taken change h.state f.fits.terms_are (f.law cov honest) };
   fail = λ items h f. record { fits = sound.fail items h f.fits; law = λ cov honest. fail_law c items h.spec h.taken h.state (is_none (page_refusal h.state)) (f.law cov honest) };
   go = λ items h f. record { fits = sound.go items h f.fits; law = λ cov honest. go_law c items h.spec h.taken h.state (end_or_detached h.state.ended) (f.law cov honest) };
 }

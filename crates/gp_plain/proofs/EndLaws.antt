@@ -7,17 +7,18 @@ use Rattle.gp_plain.specs.declared.event.HoldKind.{HoldKind}
 use Rattle.gp_plain.specs.declared.event.HoldSpec.{HoldSpec}
 use Rattle.gp_plain.specs.declared.event.HoldSpec.TheVariants.{Stream, Plain, Response, Socket}
 use Rattle.gp_plain.specs.declared.reply.Piece.{Piece}
+use Rattle.gp_plain.specs.declared.reply.Piece.TheVariants.{Message as MessagePiece}
 use Rattle.gp_plain.specs.declared.reply.EndCause.{EndCause}
 use Rattle.gp_plain.specs.declared.reply.EndCause.TheVariants.{Closed, Detached, Gap, Unrecovered, Overflow, Answered, Retry, TimedOut}
 use Rattle.gp_plain.specs.Pieces.{end_by, has_room, moved, left}
 use Rattle.gp_plain.specs.Follow.{last_items}
-use Rattle.gp_plain.specs.Holds.{State, Held, openings, opened, only_channel, followers, begun_state, is_live, added, run, marked, missed, gapped, can_ask, offered, shows_gap, run_for, settled_if, grew, timed, rest_of, ends_now, taken_of, end_or_detached, RecoveryPage, page_refusal, refusal, is_stream, begins_at, is_end, page_run, with_page, with_stale, after_page, after_failure}
+use Rattle.gp_plain.specs.Holds.{State, Held, openings, opened, only_channel, followers, begun_state, is_live, added, run, marked, missed, gapped, can_ask, offered, shows_gap, run_for, settled_if, grew, timed, rest_of, ends_now, taken_of, end_or_detached, RecoveryPage, page_refusal, refusal, is_stream, begins_at, is_end, page_run, with_page, with_stale, after_page, after_failure, SocketChange, push, join, leave, is_crowded, joined, on_channels, change_refusal, with_change, after_change}
 use Rattle.gp_plain.specs.History.{held, published}
 use Rattle.gp_plain.specs.Ends.{PositionLaw, ToldLaw, IsBrought, EndsByPiece, AnswerLaw}
 use Rattle.gp_plain.proofs.Histories.{IsKept, in_each_history, all_at}
 use Rattle.gp_plain.proofs.Soundness.{IsSound, are_sound, taken_again}
 use Rattle.gp_plain.proofs.Released.{have_ended}
-use Rattle.gp_plain.proofs.Paging.{page_dead, failure_dead}
+use Rattle.gp_plain.proofs.Paging.{page_dead, failure_dead, live_unrefused, change_dead}
 
 absurd_true : {A : Type 0} → true ≡ false → A
 absurd_true e = cc
@@ -79,6 +80,9 @@ told_kept = record {
     told = λ cause e.
         let t = f.told cause e in
         same_told h.state (after_page (last_items items) page h.state) cause h.released (page_dead (last_items items) page h.state (live_not h.state cause t.1)) t;
+  };
+  change = λ items change h f. record {
+    told = λ cause e. let t = f.told cause e in same_told h.state (after_change change h.state) cause h.released (change_dead change h.state (live_not h.state cause t.1)) t;
   };
   fail = λ items h f. record { told = λ cause e. let t = f.told cause e in same_told h.state (after_failure h.state) cause h.released (failure_dead h.state (live_not h.state cause t.1)) t };
   go = λ items h f. record { told = λ cause e. let t = f.told cause e in (t.0, ap (λ (o : Option EndCause). Some (end_or_detached o)) t.1, refl) };
@@ -206,13 +210,28 @@ page_ends taken window page s true true f =
 page_ends taken window page s true false f = f
 page_ends taken window page s false begins f = f
 
-none_refused : (ended : Option EndCause) (has : Bool) (kind : HoldKind) → is_none (refusal ended has kind) ≡ true → ended ≡ None
-none_refused None has kind e = refl
-none_refused (Some cause) has kind e = absurd_true (sym e)
-
 fail_ends : (taken : List Piece) (s : State) (may : Bool) → is_none (page_refusal s) ≡ may → Ends (taken ++ s.pending) s.ended → (let t = cond may (record s { ended = Some Unrecovered }) s in Ends (taken ++ t.pending) t.ended)
-fail_ends taken s true m f = ended_so (taken ++ s.pending) Unrecovered (f.live (none_refused s.ended (is_stream s.terms.kind) s.terms.kind m)) refl
+fail_ends taken s true m f = ended_so (taken ++ s.pending) Unrecovered (f.live (live_unrefused s.ended (is_stream s.terms.kind) s.terms.kind m)) refl
 fail_ends taken s false m f = f
+
+join_ends : (ps : List Piece) (channel : List ℕ) (s : State) (crowded : Bool) → Ends ps s.ended → (let t = cond crowded s (on_channels (joined channel s.terms.channels) s) in Ends ps t.ended)
+join_ends ps channel s true f = f
+join_ends ps channel s false f = f
+
+join_pending : (channel : List ℕ) (s : State) (crowded : Bool) → (cond crowded s (on_channels (joined channel s.terms.channels) s)).pending ≡ s.pending
+join_pending channel s true = refl
+join_pending channel s false = refl
+
+with_change_ends : (taken : List Piece) (change : SocketChange) (s : State) → Ends (taken ++ s.pending) s.ended → (let t = with_change change s in Ends (taken ++ t.pending) t.ended)
+with_change_ends taken (push message) s f = add_ends taken s (MessagePiece message) (is_live s) (has_room s.pending (MessagePiece message)) refl f
+with_change_ends taken (join channel) s f =
+    let crowded = is_crowded channel s.terms.channels in
+    subst (λ ps. Ends (taken ++ ps) (cond crowded s (on_channels (joined channel s.terms.channels) s)).ended) (sym (join_pending channel s crowded)) (join_ends (taken ++ s.pending) channel s crowded f)
+with_change_ends taken (leave channel) s f = f
+
+change_ends : (taken : List Piece) (change : SocketChange) (s : State) (may : Bool) → Ends (taken ++ s.pending) s.ended → (let t = cond may (with_change change s) s in Ends (taken ++ t.pending) t.ended)
+change_ends taken change s true f = with_change_ends taken change s f
+change_ends taken change s false f = f
 
 go_ends : (ps : List Piece) (ended : Option EndCause) → Ends ps ended → Ends ps (Some (end_or_detached ended))
 go_ends ps None f = ended_so ps Detached (f.live refl) refl
@@ -226,6 +245,7 @@ ends_kept = record {
       let u = timed now h.state.terms.deadline h.state in
       subst (λ ps. Ends ps u.ended) (sym (taken_again h.taken u.pending)) (time_ends h.taken now h.state.terms.deadline h.state f);
   page = λ items page h f. page_ends h.taken (last_items items) page h.state (is_none (page_refusal h.state)) (begins_at h.state.position page.from) f;
+  change = λ items change h f. change_ends h.taken change h.state (is_none (change_refusal h.state)) f;
   fail = λ items h f. fail_ends h.taken h.state (is_none (page_refusal h.state)) refl f;
   go = λ items h f. go_ends (h.taken ++ h.state.pending) h.state.ended f;
 }

@@ -7,7 +7,7 @@ use Rattle.gp_plain.specs.declared.event.Event.{Event}
 use Rattle.gp_plain.specs.declared.event.Event.TheVariants.{Attach, Publish, Take, Page, PageFailed, Push, Join, Leave, Detach}
 use Rattle.gp_plain.specs.declared.event.HoldSpec.{HoldSpec}
 use Rattle.gp_plain.specs.Follow.{last_items, is_repeat}
-use Rattle.gp_plain.specs.Holds.{Held, RecoveryPage, begun, taken_from, paged_from, failed, let_go}
+use Rattle.gp_plain.specs.Holds.{Held, RecoveryPage, SocketChange, push, join, leave, begun, taken_from, paged_from, failed, changed_by, let_go}
 use Rattle.gp_plain.specs.History.{Past, page_of, has_place, changed, served_by, with_item, with_hold, after_event, after, nothing, held, published}
 
 -- what is said of a hold and of the items published so far is kept by each event
@@ -17,6 +17,7 @@ pub record IsKept (Says : List Item → Held → Type 0) : Type 0 where
   pub take : (items : List Item) (now : ℕ) (h : Held) → Says items h → Says items (taken_from now h)
   pub page : (items : List Item) (page : RecoveryPage) (h : Held) → Says items h → Says items (paged_from (last_items items) page h)
   pub fail : (items : List Item) (h : Held) → Says items h → Says items (failed h)
+  pub change : (items : List Item) (change : SocketChange) (h : Held) → Says items h → Says items (changed_by change h)
   pub go : (items : List Item) (h : Held) → Says items h → Says items (let_go h)
 
 abbrev IsKeptBy : (List Item → Held → Type 0) → Past → Type 0
@@ -59,9 +60,9 @@ after_all says past who (Page hold from to bytes then) k all =
     let page = page_of from to bytes then in
     changed_all (says past.published) who hold (paged_from (last_items past.published) page) past.holds (k.page past.published page) all
 after_all says past who (PageFailed hold) k all = changed_all (says past.published) who hold failed past.holds (k.fail past.published) all
-after_all says past who (Push hold message) k all = all
-after_all says past who (Join hold channel) k all = all
-after_all says past who (Leave hold channel) k all = all
+after_all says past who (Push hold message) k all = changed_all (says past.published) who hold (changed_by (push message)) past.holds (k.change past.published (push message)) all
+after_all says past who (Join hold channel) k all = changed_all (says past.published) who hold (changed_by (join channel)) past.holds (k.change past.published (join channel)) all
+after_all says past who (Leave hold channel) k all = changed_all (says past.published) who hold (changed_by (leave channel)) past.holds (k.change past.published (leave channel)) all
 
 folded_all : (says : List Item → Held → Type 0) (past : Past) (entries : List Entry) → IsKept says → IsKeptBy says past → IsKeptBy says (fold after past entries)
 folded_all says past [] k all = all

@@ -4,24 +4,30 @@ use Rattle.std.specs.List.{AllByRecursion}
 use Rattle.std.specs.Option.{option_map_or}
 use Rattle.std.proofs.lemmas.List.{append-nil, take-append-drop}
 use Rattle.gp_plain.specs.declared.item.Item.{Item}
+use Rattle.gp_plain.specs.declared.item.Message.{Message}
+use Rattle.gp_plain.specs.declared.item.Message.TheVariants.{Text, Binary, Ping, Pong, Close}
+use Rattle.gp_plain.specs.declared.item.MessagePart.{MessagePart}
+use Rattle.gp_plain.specs.declared.item.MessagePart.TheVariants.{Text as TextPart, Binary as BinaryPart, Close as ClosePart}
 use Rattle.gp_plain.specs.declared.item.ResponsePart.{ResponsePart}
 use Rattle.gp_plain.specs.declared.item.StreamPart.{StreamPart}
 use Rattle.gp_plain.specs.declared.event.HoldKind.{HoldKind}
 use Rattle.gp_plain.specs.declared.event.HoldSpec.{HoldSpec}
 use Rattle.gp_plain.specs.declared.event.HoldSpec.TheVariants.{Stream, Plain, Response, Socket}
 use Rattle.gp_plain.specs.declared.reply.Piece.{Piece}
+use Rattle.gp_plain.specs.declared.reply.Piece.TheVariants.{Message as MessagePiece}
 use Rattle.gp_plain.specs.declared.reply.EndCause.{EndCause}
 use Rattle.gp_plain.specs.declared.reply.EndCause.TheVariants.{Closed, Detached, Gap, Unrecovered, Overflow, Answered, Retry, TimedOut}
 use Rattle.gp_plain.specs.Items.{closes}
 use Rattle.gp_plain.specs.Pieces.{position_after, closed_by, end_by, has_room, moved, batch_count, batch, left}
 use Rattle.gp_plain.specs.Follow.{last_items, is_heard, follow}
-use Rattle.gp_plain.specs.Holds.{Terms, State, Held, terms_of, start_of, opened, only_channel, followers, comes_next, leaves_gap, run_by, run_for, piece_by, answer_or, ends_by, stream_piece, answer_piece, begun_state, is_live, is_ahead, wants_more, added, run, marked, missed, gapped, can_ask, offered, shows_gap, settled_if, grew, timed, rest_of, ends_now, asks, is_retry, repeats, recover_from, given, taken_of, RecoveryPage, refusal, is_stream, page_refusal, begins_at, is_end, is_next, page_run, closed_behind, marked_anew, with_page, with_stale}
+use Rattle.gp_plain.specs.Holds.{Terms, State, Held, terms_of, start_of, opened, only_channel, followers, comes_next, leaves_gap, run_by, run_for, piece_by, answer_or, ends_by, stream_piece, answer_piece, begun_state, is_live, is_ahead, wants_more, added, run, marked, missed, gapped, can_ask, offered, shows_gap, settled_if, grew, timed, rest_of, ends_now, asks, is_retry, repeats, recover_from, given, taken_of, RecoveryPage, refusal, is_stream, page_refusal, begins_at, is_end, is_next, page_run, closed_behind, marked_anew, with_page, with_stale, SocketChange, push, join, leave, is_socket, is_crowded, joined, on_channels, change_refusal, with_change, message_piece}
 use Rattle.gp_plain.specs.History.{held}
 use Rattle.gp_plain.specs.Kinds.{may_end, RecoverFits, TakenFits, KindLaw}
 use Rattle.gp_plain.proofs.Histories.{IsKept, in_each_history, all_at}
-use Rattle.gp_plain.proofs.Soundness.{Fits, timed_fits, sound}
+use Rattle.gp_plain.proofs.Soundness.{Fits, timed_fits, sound, HasTerms, kind_is, deadline_is}
 use Rattle.gp_plain.proofs.EndLaws.{Quiet, Ends, told_now, time_ends, ends_kept, ends_by_piece}
 use Rattle.gp_plain.specs.Ends.{IsBrought}
+use Rattle.gp_plain.proofs.Paging.{kind_unrefused}
 
 absurd_true : {A : Type 0} → true ≡ false → A
 absurd_true e = cc
@@ -109,21 +115,34 @@ part_may : (channels : List (List ℕ)) (prev : Option (List ℕ)) (deadline : �
 part_may channels prev deadline again None item = tt
 part_may channels prev deadline again (Some part) item = (piece_may (Response channels prev deadline again) item, tt)
 
+message_may : (part : Option MessagePart) → AllMay Socket (message_piece part)
+message_may None = tt
+message_may (Some (TextPart bytes)) = (none_may Socket, tt)
+message_may (Some (BinaryPart bytes)) = (none_may Socket, tt)
+message_may (Some ClosePart) = (one_may Socket Closed refl, tt)
+
 run_by_may : (spec : HoldSpec) (at : Option (List ℕ)) (item : Item) (window : List Item) → AllMay spec (run_by (terms_of spec).kind (terms_of spec).channels at item window)
 run_by_may (Stream opening channel prev link) at item window = chain_may (Stream opening channel prev link) channel item window (comes_next item at)
 run_by_may (Plain opening channels) at item window = plain_may opening channels item.stream item
 run_by_may (Response channels prev deadline again) None item window = part_may channels prev deadline again item.response item
 run_by_may (Response channels prev deadline again) (Some at) item window = chain_may (Response channels prev deadline again) (only_channel channels) item window (comes_next item (Some at))
-run_by_may Socket at item window = tt
+run_by_may Socket at item window = message_may item.message
 
 run_if_may : (spec : HoldSpec) (ps : List Piece) (heard : Bool) → AllMay spec ps → AllMay spec (cond heard ps [])
 run_if_may spec ps true all = all
 run_if_may spec ps false all = tt
 
-run_for_may : (spec : HoldSpec) (terms : Terms) (at : Option (List ℕ)) (item : Item) (window : List Item) → terms ≡ terms_of spec → AllMay spec (run_for terms at item window)
-run_for_may spec terms at item window e =
+run_for_same : (spec : HoldSpec) (terms : Terms) (at : Option (List ℕ)) (item : Item) (window : List Item) → terms ≡ terms_of spec → AllMay spec (run_for terms at item window)
+run_for_same spec terms at item window e =
     subst (λ (t : Terms). AllMay spec (run_for t at item window)) (sym e)
     (run_if_may spec (run_by (terms_of spec).kind (terms_of spec).channels at item window) (is_heard (terms_of spec).channels item) (run_by_may spec at item window))
+
+run_for_may : (spec : HoldSpec) (terms : Terms) (at : Option (List ℕ)) (item : Item) (window : List Item) → HasTerms spec terms → AllMay spec (run_for terms at item window)
+run_for_may (Stream opening channel prev link) terms at item window e = run_for_same (Stream opening channel prev link) terms at item window e
+run_for_may (Plain opening channels) terms at item window e = run_for_same (Plain opening channels) terms at item window e
+run_for_may (Response channels prev deadline again) terms at item window e = run_for_same (Response channels prev deadline again) terms at item window e
+run_for_may Socket terms at item window e =
+    subst (λ (t : Terms). AllMay Socket (run_for t at item window)) (sym e.1) (run_if_may Socket (message_piece item.message) (is_heard e.0 item) (message_may item.message))
 
 add_kind : (spec : HoldSpec) (s : State) (p : Piece) (live room : Bool) → MayEnd spec (end_by p) → OfKind spec s
     → OfKind spec (cond live (cond room (record s { pending = s.pending ++ p ∷ []; position = option_map (λ (at : List ℕ). moved at p) s.position; ended = end_by p; misses = 0 }) (record s { ended = Some Overflow })) s)
@@ -166,9 +185,17 @@ gap_kind (Plain opening channels) s at f = absurd_true (sym at)
 gap_kind (Response channels prev deadline again) s at f = mark_kind (Response channels prev deadline again) s at f
 gap_kind Socket s at f = absurd_true (sym at)
 
-offer_kind : (spec : HoldSpec) (s : State) (item : Item) (before : List Item) (gap : Bool) → s.terms ≡ terms_of spec → (gap ≡ true → is_some (start_of spec) ≡ true) → OfKind spec s
+ask_kind : (spec : HoldSpec) (s : State) → HasTerms spec s.terms → is_some (start_of spec) ≡ true → OfKind spec s → OfKind spec (gapped s)
+ask_kind (Stream opening channel prev link) s t at f =
+    let spec = Stream opening channel prev link in subst (λ (terms : Terms). OfKind spec (cond (can_ask terms) (marked s) (missed s))) (sym t) (gap_kind spec s at f)
+ask_kind (Plain opening channels) s t at f = absurd_true (sym at)
+ask_kind (Response channels prev deadline again) s t at f =
+    let spec = Response channels prev deadline again in subst (λ (terms : Terms). OfKind spec (cond (can_ask terms) (marked s) (missed s))) (sym t) (gap_kind spec s at f)
+ask_kind Socket s t at f = absurd_true (sym at)
+
+offer_kind : (spec : HoldSpec) (s : State) (item : Item) (before : List Item) (gap : Bool) → HasTerms spec s.terms → (gap ≡ true → is_some (start_of spec) ≡ true) → OfKind spec s
     → OfKind spec (cond gap (gapped s) (run s (run_for s.terms s.position item before)))
-offer_kind spec s item before true t at f = subst (λ (terms : Terms). OfKind spec (cond (can_ask terms) (marked s) (missed s))) (sym t) (gap_kind spec s (at refl) f)
+offer_kind spec s item before true t at f = ask_kind spec s t (at refl) f
 offer_kind spec s item before false t at f = run_kind spec s (run_for s.terms s.position item before) (run_for_may spec s.terms s.position item before t) f
 
 settle_kind : (spec : HoldSpec) (window : List Item) (s : State) (went_on : Bool) → OfKind spec s → OfKind spec (settled_if went_on window s)
@@ -224,18 +251,13 @@ time_kind (Plain opening channels) now s f = f
 time_kind (Response channels prev deadline again) now s f = due_kind channels prev deadline again s (is_live s) (nat_le deadline now) s.want refl f
 time_kind Socket now s f = f
 
-timed_kind : (spec : HoldSpec) (now : ℕ) (s : State) → s.terms ≡ terms_of spec → OfKind spec s → OfKind spec (timed now s.terms.deadline s)
-timed_kind spec now s t f = subst (λ (terms : Terms). OfKind spec (timed now terms.deadline s)) (sym t) (time_kind spec now s f)
+timed_kind : (spec : HoldSpec) (now : ℕ) (s : State) → HasTerms spec s.terms → OfKind spec s → OfKind spec (timed now s.terms.deadline s)
+timed_kind spec now s t f = subst (λ (deadline : Option ℕ). OfKind spec (timed now deadline s)) (sym (deadline_is spec s.terms t)) (time_kind spec now s f)
 
 rest_kind : (spec : HoldSpec) (s : State) → OfKind spec s → OfKind spec (rest_of s)
 rest_kind spec s f = record { ends = f.ends; wants = λ e. f.wants (and_first s.want (not (asks s)) e) }
 
 -- pages are for streams alone
-
-stream_only : (ended : Option EndCause) (has : Bool) (kind : HoldKind) → is_none (refusal ended has kind) ≡ true → has ≡ true
-stream_only None true kind e = refl
-stream_only None false kind e = absurd_true (sym e)
-stream_only (Some cause) has kind e = absurd_true (sym e)
 
 close_kind : (spec : HoldSpec) (s : State) (closes : Bool) → may_end spec Closed ≡ true → OfKind spec s → OfKind spec (cond closes (record s { ended = Some Closed }) s)
 close_kind spec s true may f = record { ends = one_may spec Closed may; wants = f.wants }
@@ -275,7 +297,7 @@ stream_page_kind opening channel prev link window page s t f =
     let closes = is_end page.follows && is_live ran in
     anew_kind spec (closed_behind (is_end page.follows) ran) (is_next page.follows) s.late window (closed_terms ran closes ∙ run_terms s ps ∙ t) (λ e. e) (close_kind spec ran closes refl (run_kind spec s ps all f))
 
-page_kind : (spec : HoldSpec) (window : List Item) (page : RecoveryPage) (s : State) (may begins : Bool) → s.terms ≡ terms_of spec → (may ≡ true → is_stream (terms_of spec).kind ≡ true) → OfKind spec s
+page_kind : (spec : HoldSpec) (window : List Item) (page : RecoveryPage) (s : State) (may begins : Bool) → HasTerms spec s.terms → (may ≡ true → is_stream (terms_of spec).kind ≡ true) → OfKind spec s
     → OfKind spec (cond may (cond begins (with_page window page s) (with_stale window s)) s)
 page_kind spec window page s false begins t has f = f
 page_kind (Stream opening channel prev link) window page s true true t has f = stream_page_kind opening channel prev link window page s t f
@@ -291,8 +313,36 @@ fail_kind (Plain opening channels) s true has f = absurd_true (sym (has refl))
 fail_kind (Response channels prev deadline again) s true has f = absurd_true (sym (has refl))
 fail_kind Socket s true has f = absurd_true (sym (has refl))
 
-has_pages : (spec : HoldSpec) (s : State) → s.terms ≡ terms_of spec → is_none (page_refusal s) ≡ true → is_stream (terms_of spec).kind ≡ true
-has_pages spec s t e = ap (λ (k : Terms). is_stream k.kind) (sym t) ∙ stream_only s.ended (is_stream s.terms.kind) s.terms.kind e
+has_pages : (spec : HoldSpec) (s : State) → HasTerms spec s.terms → is_none (page_refusal s) ≡ true → is_stream (terms_of spec).kind ≡ true
+has_pages spec s t e = ap is_stream (sym (kind_is spec s.terms t)) ∙ kind_unrefused s.ended (is_stream s.terms.kind) s.terms.kind e
+
+-- and changes for sockets
+
+closed_message_may : (message : Message) → MayEnd Socket (end_by (MessagePiece message))
+closed_message_may (Text bytes) = none_may Socket
+closed_message_may (Binary bytes) = none_may Socket
+closed_message_may (Ping bytes) = none_may Socket
+closed_message_may (Pong bytes) = none_may Socket
+closed_message_may (Close code reason) = one_may Socket Closed refl
+
+join_kind : (channel : List ℕ) (s : State) (crowded : Bool) → OfKind Socket s → OfKind Socket (cond crowded s (on_channels (joined channel s.terms.channels) s))
+join_kind channel s true f = f
+join_kind channel s false f = record { ends = f.ends; wants = f.wants }
+
+socket_kind : (change : SocketChange) (s : State) → OfKind Socket s → OfKind Socket (with_change change s)
+socket_kind (push message) s f = add_kind Socket s (MessagePiece message) (is_live s) (has_room s.pending (MessagePiece message)) (closed_message_may message) f
+socket_kind (join channel) s f = join_kind channel s (is_crowded channel s.terms.channels) f
+socket_kind (leave channel) s f = record { ends = f.ends; wants = f.wants }
+
+change_kind : (spec : HoldSpec) (change : SocketChange) (s : State) (may : Bool) → (may ≡ true → is_socket (terms_of spec).kind ≡ true) → OfKind spec s → OfKind spec (cond may (with_change change s) s)
+change_kind spec change s false has f = f
+change_kind (Stream opening channel prev link) change s true has f = absurd_true (sym (has refl))
+change_kind (Plain opening channels) change s true has f = absurd_true (sym (has refl))
+change_kind (Response channels prev deadline again) change s true has f = absurd_true (sym (has refl))
+change_kind Socket change s true has f = socket_kind change s f
+
+has_changes : (spec : HoldSpec) (s : State) → HasTerms spec s.terms → is_none (change_refusal s) ≡ true → is_socket (terms_of spec).kind ≡ true
+has_changes spec s t e = ap is_socket (sym (kind_is spec s.terms t)) ∙ kind_unrefused s.ended (is_socket s.terms.kind) s.terms.kind e
 
 or_first : (a b : Bool) → (a || b) ≡ false → a ≡ false
 or_first true b e = absurd_true e
@@ -386,6 +436,12 @@ kinds_kept = record {
     kind = λ e.
         page_kind h.spec (last_items items) page h.state (is_none (page_refusal h.state)) (begins_at h.state.position page.from) f.fits.terms_are (λ m. has_pages h.spec h.state f.fits.terms_are m) (f.kind e);
   };
+  change = λ items change h f. record {
+    fits = sound.change items change h f.fits;
+    all = ends_kept.change items change h f.all;
+    quiet = f.quiet;
+    kind = λ e. change_kind h.spec change h.state (is_none (change_refusal h.state)) (λ m. has_changes h.spec h.state f.fits.terms_are m) (f.kind e);
+  };
   fail = λ items h f. record {
     fits = sound.fail items h f.fits;
     all = ends_kept.fail items h f.all;
@@ -467,7 +523,7 @@ recover_fits (Plain opening channels) taken s fits may = none_recovers (terms_of
 recover_fits (Response channels prev deadline again) taken s fits may =
     response_recovers (terms_of (Response channels prev deadline again)) s (given s).ended fits.terms_are refl refl
     (λ e. ap is_some fits.position_is ∙ placed prev (taken ++ s.pending) (may Retry (retry_is (given s).ended e)))
-recover_fits Socket taken s fits may = none_recovers (terms_of Socket) s (given s).ended fits.terms_are refl refl
+recover_fits Socket taken s fits may = none_recovers (record (terms_of Socket) { channels = fits.terms_are.0 }) s (given s).ended fits.terms_are.1 refl refl
 
 taken_fits : (spec : HoldSpec) (taken : List Piece) (s : State) → Fits spec taken s → OfKind spec s → Ends (taken ++ s.pending) s.ended → Quiet taken → TakenFits spec (given s)
 taken_fits spec taken s fits f all quiet =

@@ -18,7 +18,7 @@ use Rattle.gp_plain.specs.Names.{same_id}
 use Rattle.gp_plain.specs.Items.{is_id, is_on, is_same}
 use Rattle.gp_plain.specs.Follow.{last_items, is_repeat}
 use Rattle.gp_plain.specs.Pieces.{text, NoPage}
-use Rattle.gp_plain.specs.Holds.{State, Held, begun, taken_from, paged_from, failed, let_go}
+use Rattle.gp_plain.specs.Holds.{State, Held, begun, taken_from, paged_from, failed, let_go, push, join, leave, changed_by}
 use Rattle.gp_plain.specs.History.{Past, page_of, has_place, changed, served_by, with_item, with_hold, after_event, after, nothing, past_of, held, published}
 use Rattle.gp_plain.specs.Chain.{Link, Chain, AreDistinct, bytes_of, last_id}
 use Rattle.gp_plain.specs.Order.{sent_by, sent, are_apart, Attaches, AreFew, OrderLaw}
@@ -74,9 +74,9 @@ event_specs past who (Page hold from to bytes then) =
     let f = paged_from (last_items past.published) (page_of from to bytes then) in
     same_specs (specs past.holds) (specs (changed who hold f past.holds)) (changed_specs who hold f past.holds (λ k. refl))
 event_specs past who (PageFailed hold) = same_specs (specs past.holds) (specs (changed who hold failed past.holds)) (changed_specs who hold failed past.holds (λ k. refl))
-event_specs past who (Push hold message) = same_specs (specs past.holds) (specs past.holds) refl
-event_specs past who (Join hold channel) = same_specs (specs past.holds) (specs past.holds) refl
-event_specs past who (Leave hold channel) = same_specs (specs past.holds) (specs past.holds) refl
+event_specs past who (Push hold message) = same_specs (specs past.holds) (specs (changed who hold (changed_by (push message)) past.holds)) (changed_specs who hold (changed_by (push message)) past.holds (λ k. refl))
+event_specs past who (Join hold channel) = same_specs (specs past.holds) (specs (changed who hold (changed_by (join channel)) past.holds)) (changed_specs who hold (changed_by (join channel)) past.holds (λ k. refl))
+event_specs past who (Leave hold channel) = same_specs (specs past.holds) (specs (changed who hold (changed_by (leave channel)) past.holds)) (changed_specs who hold (changed_by (leave channel)) past.holds (λ k. refl))
 
 all_specs : (past : Past) (entries : List Entry) → Longer (specs past.holds) (specs (fold after past entries).holds)
 all_specs past [] = same_specs (specs past.holds) (specs past.holds) refl
@@ -199,9 +199,9 @@ by_event past who (Take hold now) es rest apart few = rest (after_event past who
 by_event past who (Detach hold) es rest apart few = rest (after_event past who (Detach hold)) apart few
 by_event past who (Page hold from to bytes then) es rest apart few = rest (after_event past who (Page hold from to bytes then)) apart few
 by_event past who (PageFailed hold) es rest apart few = rest (after_event past who (PageFailed hold)) apart few
-by_event past who (Push hold message) es rest apart few = rest past apart few
-by_event past who (Join hold channel) es rest apart few = rest past apart few
-by_event past who (Leave hold channel) es rest apart few = rest past apart few
+by_event past who (Push hold message) es rest apart few = rest (after_event past who (Push hold message)) apart few
+by_event past who (Join hold channel) es rest apart few = rest (after_event past who (Join hold channel)) apart few
+by_event past who (Leave hold channel) es rest apart few = rest (after_event past who (Leave hold channel)) apart few
 
 all_published : (es : List Entry) (past : Past) → Publishes es past
 all_published [] past = λ apart few. sym (append-nil past.published)

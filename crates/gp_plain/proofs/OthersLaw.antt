@@ -9,7 +9,7 @@ use Rattle.gp_plain.specs.declared.event.Entry.{Entry}
 use Rattle.gp_plain.specs.declared.event.Event.{Event}
 use Rattle.gp_plain.specs.declared.event.Event.TheVariants.{Attach, Publish, Take, Page, PageFailed, Push, Join, Leave, Detach}
 use Rattle.gp_plain.specs.Follow.{last_items, is_repeat}
-use Rattle.gp_plain.specs.Holds.{State, Held, is_live, offered, grew, settled_if, begun, taken_from, paged_from, failed, let_go}
+use Rattle.gp_plain.specs.Holds.{State, Held, is_live, offered, grew, settled_if, begun, taken_from, paged_from, failed, let_go, push, join, leave, changed_by}
 use Rattle.gp_plain.specs.History.{Past, page_of, has_place, changed_if, changed, served_by, with_item, with_hold, after_event, after, nothing, past_of, held}
 use Rattle.gp_plain.specs.Others.{Share, share_of, share_at, shares_from, IsOfAnother, OthersLaw, OwnersLaw, ReleasedLaw}
 use Rattle.gp_plain.proofs.Histories.{all_at}
@@ -85,9 +85,9 @@ module _ {A : Type 0} where
       let f = paged_from (last_items past.published) (page_of from to bytes then) in
       changed_keeps v x who hold f past.holds n (k.change f) e
   one_keeps v x past who (PageFailed hold) n k e = changed_keeps v x who hold failed past.holds n (k.change failed) e
-  one_keeps v x past who (Push hold message) n k e = e
-  one_keeps v x past who (Join hold channel) n k e = e
-  one_keeps v x past who (Leave hold channel) n k e = e
+  one_keeps v x past who (Push hold message) n k e = changed_keeps v x who hold (changed_by (push message)) past.holds n (k.change (changed_by (push message))) e
+  one_keeps v x past who (Join hold channel) n k e = changed_keeps v x who hold (changed_by (join channel)) past.holds n (k.change (changed_by (join channel))) e
+  one_keeps v x past who (Leave hold channel) n k e = changed_keeps v x who hold (changed_by (leave channel)) past.holds n (k.change (changed_by (leave channel))) e
 
   all_keep : (v : Held → A) (x : A) (says : ℕ → Type 0) (entries : List Entry) (past : Past) (n : ℕ) → ((who : ℕ) → says who → Keeps v x who)
       → All (λ (entry : Entry). says entry.who) entries → view_at v past.holds n ≡ Some x → view_at v (fold after past entries).holds n ≡ Some x
@@ -130,19 +130,19 @@ pushed_shares : (owner k : ℕ) (hs : List Held) (h : Held) → (h.owner == owne
 pushed_shares owner k [] h e = ap (λ b. cond b ((k, share_of h) ∷ []) []) e
 pushed_shares owner k (x ∷ xs) h e = ap (share_if owner k x) (pushed_shares owner (k + 1) xs h e)
 
-changed_by : (owner k : ℕ) (f : Held → Held) (h : Held) (rest : List (ℕ × Share)) (kept own : Bool) → (own ≡ true → (h.owner == owner) ≡ false) → (f h).owner ≡ h.owner
+other_stays : (owner k : ℕ) (f : Held → Held) (h : Held) (rest : List (ℕ × Share)) (kept own : Bool) → (own ≡ true → (h.owner == owner) ≡ false) → (f h).owner ≡ h.owner
     → share_if owner k (cond kept (cond own (f h) h) h) rest ≡ share_if owner k h rest
-changed_by owner k f h rest true true other same =
+other_stays owner k f h rest true true other same =
     let out : (h.owner == owner) ≡ false = other refl in
     let gone : ((f h).owner == owner) ≡ false = ap (λ n. n == owner) same ∙ out in
     ap (λ b. cond b ((k, share_of (f h)) ∷ rest) rest) gone ∙ sym (ap (λ b. cond b ((k, share_of h) ∷ rest) rest) out)
-changed_by owner k f h rest true false other same = refl
-changed_by owner k f h rest false own other same = refl
+other_stays owner k f h rest true false other same = refl
+other_stays owner k f h rest false own other same = refl
 
 changed_shares : (owner who k m : ℕ) (f : Held → Held) (hs : List Held) → who ≢ owner → ((h : Held) → (f h).owner ≡ h.owner) → shares_from owner k (changed who m f hs) ≡ shares_from owner k hs
 changed_shares owner who k m f [] ne same = refl
 changed_shares owner who k zero f (h ∷ hs) ne same =
-    changed_by owner k f h (shares_from owner (k + 1) hs) (not h.released) (h.owner == who) (λ own. differs h.owner owner (λ q. ne (sym (same_by h.owner who own) ∙ q))) (same h)
+    other_stays owner k f h (shares_from owner (k + 1) hs) (not h.released) (h.owner == who) (λ own. differs h.owner owner (λ q. ne (sym (same_by h.owner who own) ∙ q))) (same h)
 changed_shares owner who k (suc m) f (h ∷ hs) ne same = ap (share_if owner k h) (changed_shares owner who (k + 1) m f hs ne same)
 
 pub attached_shares : (owner : ℕ) (past : Past) (h : Held) (place : Bool) → (h.owner == owner) ≡ false → shares_from owner 0 (cond place (with_hold past h) past).holds ≡ shares_from owner 0 past.holds
@@ -160,9 +160,9 @@ one_shares owner who past (Take hold now) ne = changed_shares owner who 0 hold (
 one_shares owner who past (Detach hold) ne = changed_shares owner who 0 hold let_go past.holds ne (λ h. refl)
 one_shares owner who past (Page hold from to bytes then) ne = changed_shares owner who 0 hold (paged_from (last_items past.published) (page_of from to bytes then)) past.holds ne (λ h. refl)
 one_shares owner who past (PageFailed hold) ne = changed_shares owner who 0 hold failed past.holds ne (λ h. refl)
-one_shares owner who past (Push hold message) ne = refl
-one_shares owner who past (Join hold channel) ne = refl
-one_shares owner who past (Leave hold channel) ne = refl
+one_shares owner who past (Push hold message) ne = changed_shares owner who 0 hold (changed_by (push message)) past.holds ne (λ h. refl)
+one_shares owner who past (Join hold channel) ne = changed_shares owner who 0 hold (changed_by (join channel)) past.holds ne (λ h. refl)
+one_shares owner who past (Leave hold channel) ne = changed_shares owner who 0 hold (changed_by (leave channel)) past.holds ne (λ h. refl)
 
 all_shares : (owner : ℕ) (others : List Entry) (past : Past) → All (IsOfAnother owner) others → shares_from owner 0 (fold after past others).holds ≡ shares_from owner 0 past.holds
 all_shares owner [] past all = refl

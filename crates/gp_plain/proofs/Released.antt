@@ -11,7 +11,7 @@ use Rattle.gp_plain.specs.Follow.{last_items}
 use Rattle.gp_plain.specs.Holds.{State, Held, is_live, offered, settled_if, grew, timed, ends_now, taken_of, after_take}
 use Rattle.gp_plain.specs.History.{held}
 use Rattle.gp_plain.proofs.Histories.{IsKept, in_each_history}
-use Rattle.gp_plain.proofs.Paging.{page_dead, failure_dead}
+use Rattle.gp_plain.proofs.Paging.{page_dead, failure_dead, change_dead}
 
 absurd_true : {A : Type 0} → false ≡ true → A
 absurd_true e = cc
@@ -50,6 +50,7 @@ ended_kept = record {
   take = λ items now h f e. take_dead now h.state h.released (is_some (taken_of now h.state).ended) f refl e;
   page = λ items page h f e. ap is_live (page_dead (last_items items) page h.state (f e)) ∙ f e;
   fail = λ items h f e. ap is_live (failure_dead h.state (f e)) ∙ f e;
+  change = λ items change h f e. ap is_live (change_dead change h.state (f e)) ∙ f e;
   go = λ items h f e. refl;
 }
 

@@ -7,7 +7,7 @@ use Rattle.gp_plain.specs.declared.event.Entry.{Entry}
 use Rattle.gp_plain.specs.declared.event.Event.{Event}
 use Rattle.gp_plain.specs.declared.event.Event.TheVariants.{Attach, Publish, Take, Page, PageFailed, Push, Join, Leave, Detach}
 use Rattle.gp_plain.specs.Follow.{last_items, is_repeat}
-use Rattle.gp_plain.specs.Holds.{Held, begun, taken_from, paged_from, failed, let_go}
+use Rattle.gp_plain.specs.Holds.{Held, begun, taken_from, paged_from, failed, let_go, push, join, leave, changed_by}
 use Rattle.gp_plain.specs.History.{Past, page_of, has_place, changed, with_hold, after_event, after, nothing, past_of, held}
 use Rattle.gp_plain.specs.Order.{Attaches}
 use Rattle.gp_plain.specs.Others.{Share, share_of, share_at, shares_from, IsNoAttachOf, MovesShares, ReleasedShareLaw, ReleasedSharesLaw, MovesLaw}
@@ -74,9 +74,9 @@ one_gone owner who past (Take hold now) not all = changed_gone owner who 0 hold 
 one_gone owner who past (Detach hold) not all = changed_gone owner who 0 hold let_go past.holds (λ h. refl) all
 one_gone owner who past (Page hold from to bytes then) not all = changed_gone owner who 0 hold (paged_from (last_items past.published) (page_of from to bytes then)) past.holds (λ h. refl) all
 one_gone owner who past (PageFailed hold) not all = changed_gone owner who 0 hold failed past.holds (λ h. refl) all
-one_gone owner who past (Push hold message) not all = refl
-one_gone owner who past (Join hold channel) not all = refl
-one_gone owner who past (Leave hold channel) not all = refl
+one_gone owner who past (Push hold message) not all = changed_gone owner who 0 hold (changed_by (push message)) past.holds (λ h. refl) all
+one_gone owner who past (Join hold channel) not all = changed_gone owner who 0 hold (changed_by (join channel)) past.holds (λ h. refl) all
+one_gone owner who past (Leave hold channel) not all = changed_gone owner who 0 hold (changed_by (leave channel)) past.holds (λ h. refl) all
 
 all_gone : (owner : ℕ) (more : List Entry) (past : Past) → All (IsNoAttachOf owner) more → AllGone owner 0 past.holds → shares_from owner 0 (fold after past more).holds ≡ shares_from owner 0 past.holds
 all_gone owner [] past none all = refl
@@ -109,9 +109,9 @@ one_moves owner who past (Take hold now) not = absurd (not tt)
 one_moves owner who past (Detach hold) not = absurd (not tt)
 one_moves owner who past (Page hold from to bytes then) not = changed_same owner who 0 hold (paged_from (last_items past.published) (page_of from to bytes then)) past.holds (λ h. refl) (λ h. refl)
 one_moves owner who past (PageFailed hold) not = changed_same owner who 0 hold failed past.holds (λ h. refl) (λ h. refl)
-one_moves owner who past (Push hold message) not = refl
-one_moves owner who past (Join hold channel) not = refl
-one_moves owner who past (Leave hold channel) not = refl
+one_moves owner who past (Push hold message) not = changed_same owner who 0 hold (changed_by (push message)) past.holds (λ h. refl) (λ h. refl)
+one_moves owner who past (Join hold channel) not = changed_same owner who 0 hold (changed_by (join channel)) past.holds (λ h. refl) (λ h. refl)
+one_moves owner who past (Leave hold channel) not = changed_same owner who 0 hold (changed_by (leave channel)) past.holds (λ h. refl) (λ h. refl)
 
 all_move : (owner : ℕ) (more : List Entry) (past : Past) → All (λ (e : Entry). MovesShares e.event → ⊥) more → shares_from owner 0 (fold after past more).holds ≡ shares_from owner 0 past.holds
 all_move owner [] past none = refl

@@ -9,16 +9,52 @@ use Rattle.gp_plain.specs.declared.event.Entry.{Entry}
 use Rattle.gp_plain.specs.declared.event.HoldSpec.{HoldSpec}
 use Rattle.gp_plain.specs.declared.event.HoldSpec.TheVariants.{Stream, Plain, Response, Socket}
 use Rattle.gp_plain.specs.declared.reply.Piece.{Piece}
+use Rattle.gp_plain.specs.declared.reply.Piece.TheVariants.{Message as MessagePiece}
 use Rattle.gp_plain.specs.declared.reply.EndCause.TheVariants.{Closed, Unrecovered, Overflow, TimedOut, Retry}
 use Rattle.gp_plain.specs.Pieces.{moved, position_after, end_by, has_room, batch_count, batch, left}
 use Rattle.gp_plain.specs.Follow.{last_items}
-use Rattle.gp_plain.specs.Holds.{State, Held, terms_of, start_of, position_of, RecoveryPage, is_live, added, run, marked, missed, gapped, can_ask, offered, shows_gap, run_for, settled_if, grew, opened, only_channel, followers, begun_state, timed, rest_of, page_refusal, begins_at, is_end, is_next, page_run, closed_behind, marked_anew, with_page, with_stale}
+use Rattle.gp_plain.specs.Holds.{State, Held, terms_of, start_of, position_of, RecoveryPage, is_live, added, run, marked, missed, gapped, can_ask, offered, shows_gap, run_for, settled_if, grew, opened, only_channel, followers, begun_state, timed, rest_of, page_refusal, begins_at, is_end, is_next, page_run, closed_behind, marked_anew, with_page, with_stale, Terms, SocketChange, push, join, leave, is_socket, change_refusal, is_crowded, joined, without, on_channels, with_change}
 use Rattle.gp_plain.specs.History.{held, published}
 use Rattle.gp_plain.proofs.Histories.{IsKept, in_each_history}
+use Rattle.gp_plain.proofs.Paging.{kind_unrefused}
+
+-- what a hold listens to is what it was attached with, but for the channels of a socket
+abbrev pub HasTerms : HoldSpec → Terms → Type 0
+HasTerms (Stream opening channel prev link) terms = terms ≡ terms_of (Stream opening channel prev link)
+HasTerms (Plain opening channels) terms = terms ≡ terms_of (Plain opening channels)
+HasTerms (Response channels prev deadline again) terms = terms ≡ terms_of (Response channels prev deadline again)
+HasTerms Socket terms = (channels : List (List ℕ)) × (terms ≡ record (terms_of Socket) { channels = channels })
+
+fresh_terms : (spec : HoldSpec) → HasTerms spec (terms_of spec)
+fresh_terms (Stream opening channel prev link) = refl
+fresh_terms (Plain opening channels) = refl
+fresh_terms (Response channels prev deadline again) = refl
+fresh_terms Socket = ([], refl)
+
+pub kind_is : (spec : HoldSpec) (terms : Terms) → HasTerms spec terms → terms.kind ≡ (terms_of spec).kind
+kind_is (Stream opening channel prev link) terms e = ap (λ (t : Terms). t.kind) e
+kind_is (Plain opening channels) terms e = ap (λ (t : Terms). t.kind) e
+kind_is (Response channels prev deadline again) terms e = ap (λ (t : Terms). t.kind) e
+kind_is Socket terms e = ap (λ (t : Terms). t.kind) e.1
+
+pub deadline_is : (spec : HoldSpec) (terms : Terms) → HasTerms spec terms → terms.deadline ≡ (terms_of spec).deadline
+deadline_is (Stream opening channel prev link) terms e = ap (λ (t : Terms). t.deadline) e
+deadline_is (Plain opening channels) terms e = ap (λ (t : Terms). t.deadline) e
+deadline_is (Response channels prev deadline again) terms e = ap (λ (t : Terms). t.deadline) e
+deadline_is Socket terms e = ap (λ (t : Terms). t.deadline) e.1
+
+absurd_true : {A : Type 0} → false ≡ true → A
+absurd_true e = cc
+
+moved_terms : (spec : HoldSpec) (terms : Terms) (channels : List (List ℕ)) → is_socket terms.kind ≡ true → HasTerms spec terms → HasTerms spec (record terms { channels = channels })
+moved_terms (Stream opening channel prev link) terms channels has e = absurd_true (ap (λ (t : Terms). is_socket t.kind) (sym e) ∙ has)
+moved_terms (Plain opening names) terms channels has e = absurd_true (ap (λ (t : Terms). is_socket t.kind) (sym e) ∙ has)
+moved_terms (Response names prev deadline again) terms channels has e = absurd_true (ap (λ (t : Terms). is_socket t.kind) (sym e) ∙ has)
+moved_terms Socket terms channels has e = (channels, ap (λ (t : Terms). let u : Terms = record t { channels = channels } in u) e.1)
 
 -- a state of a hold that was attached with a specification, and from which pieces were taken
 pub record Fits (spec : HoldSpec) (taken : List Piece) (s : State) : Type 0 where
-  pub terms_are : s.terms ≡ terms_of spec
+  pub terms_are : HasTerms spec s.terms
   pub position_is : s.position ≡ position_of spec (taken ++ s.pending)
 
 position_by : (start : Option (List ℕ)) (ps : List Piece) (p : Piece)
@@ -66,7 +102,7 @@ opened_fits (Stream opening channel prev link) = record { terms_are = refl; posi
 opened_fits (Plain opening channels) = record { terms_are = refl; position_is = refl }
 opened_fits (Response channels None deadline again) = record { terms_are = refl; position_is = refl }
 opened_fits (Response channels (Some prev) deadline again) = record { terms_are = refl; position_is = refl }
-opened_fits Socket = record { terms_are = refl; position_is = refl }
+opened_fits Socket = record { terms_are = fresh_terms Socket; position_is = refl }
 
 begun_fits : (spec : HoldSpec) (window : List Item) → Fits spec [] (begun_state spec window)
 begun_fits spec window =
@@ -117,6 +153,25 @@ failed_fits : (spec : HoldSpec) (taken : List Piece) (s : State) (may : Bool) �
 failed_fits spec taken s true f = record { terms_are = f.terms_are; position_is = f.position_is }
 failed_fits spec taken s false f = f
 
+-- sockets
+
+channels_fit : (spec : HoldSpec) (taken : List Piece) (channels : List (List ℕ)) (s : State) → is_socket s.terms.kind ≡ true → Fits spec taken s → Fits spec taken (on_channels channels s)
+channels_fit spec taken channels s has f = record { terms_are = moved_terms spec s.terms channels has f.terms_are; position_is = f.position_is }
+
+join_fits : (spec : HoldSpec) (taken : List Piece) (channel : List ℕ) (s : State) (crowded : Bool) → is_socket s.terms.kind ≡ true → Fits spec taken s
+    → Fits spec taken (cond crowded s (on_channels (joined channel s.terms.channels) s))
+join_fits spec taken channel s true has f = f
+join_fits spec taken channel s false has f = channels_fit spec taken (joined channel s.terms.channels) s has f
+
+with_change_fits : (spec : HoldSpec) (taken : List Piece) (change : SocketChange) (s : State) → is_socket s.terms.kind ≡ true → Fits spec taken s → Fits spec taken (with_change change s)
+with_change_fits spec taken (push message) s has f = added_fits_by spec taken s (MessagePiece message) (is_live s) (has_room s.pending (MessagePiece message)) f
+with_change_fits spec taken (join channel) s has f = join_fits spec taken channel s (is_crowded channel s.terms.channels) has f
+with_change_fits spec taken (leave channel) s has f = channels_fit spec taken (without channel s.terms.channels) s has f
+
+changed_fits : (spec : HoldSpec) (taken : List Piece) (change : SocketChange) (s : State) (may : Bool) → is_none (change_refusal s) ≡ may → Fits spec taken s → Fits spec taken (cond may (with_change change s) s)
+changed_fits spec taken change s true m f = with_change_fits spec taken change s (kind_unrefused s.ended (is_socket s.terms.kind) s.terms.kind m) f
+changed_fits spec taken change s false m f = f
+
 abbrev pub IsSound : List Item → Held → Type 0
 IsSound items h = Fits h.spec h.taken h.state
 
@@ -127,6 +182,7 @@ sound = record {
   take = λ items now h f. rest_fits h.spec h.taken (timed now h.state.terms.deadline h.state) (timed_fits h.spec h.taken now h.state h.state.terms.deadline f);
   page = λ items page h f. paged_fits h.spec h.taken (last_items items) page h.state (is_none (page_refusal h.state)) (begins_at h.state.position page.from) f;
   fail = λ items h f. failed_fits h.spec h.taken h.state (is_none (page_refusal h.state)) f;
+  change = λ items change h f. changed_fits h.spec h.taken change h.state (is_none (change_refusal h.state)) refl f;
   go = λ items h f. record { terms_are = f.terms_are; position_is = f.position_is };
 }
 

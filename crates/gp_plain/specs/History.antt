@@ -3,7 +3,7 @@ use Rattle.std.specs.Prelude.{ℕ, zero, suc, Bool, cond, not, nat_lt, ◌==◌,
 use Rattle.std.specs.Option.{option_map_or}
 use Rattle.gp_plain.specs.Pieces.{id_or}
 use Rattle.gp_plain.specs.Follow.{last_items, is_repeat}
-use Rattle.gp_plain.specs.Holds.{Held, RecoveryPage, begun, pending, position, ended, served, grew, taken_of, taken_from, paged_from, page_reply, failed, failure_reply, let_go}
+use Rattle.gp_plain.specs.Holds.{Held, RecoveryPage, begun, pending, position, ended, served, grew, taken_of, taken_from, paged_from, page_reply, failed, failure_reply, push, join, leave, changed_by, change_reply, let_go}
 use Rattle.gp_plain.specs.declared.item.Item.{Item}
 use Rattle.gp_plain.specs.declared.event.Entry.{Entry}
 use Rattle.gp_plain.specs.declared.event.Event.{Event}
@@ -88,9 +88,9 @@ after_event past who (Take hold now) = with_holds past (changed who hold (taken_
 after_event past who (Detach hold) = with_holds past (changed who hold let_go past.holds)
 after_event past who (Page hold from to bytes then) = with_holds past (changed who hold (paged_from (last_items past.published) (page_of from to bytes then)) past.holds)
 after_event past who (PageFailed hold) = with_holds past (changed who hold failed past.holds)
-after_event past who (Push hold message) = past
-after_event past who (Join hold channel) = past
-after_event past who (Leave hold channel) = past
+after_event past who (Push hold message) = with_holds past (changed who hold (changed_by (push message)) past.holds)
+after_event past who (Join hold channel) = with_holds past (changed who hold (changed_by (join channel)) past.holds)
+after_event past who (Leave hold channel) = with_holds past (changed who hold (changed_by (leave channel)) past.holds)
 
 abbrev pub after : Past → Entry → Past
 after past entry = after_event past entry.who entry.event
@@ -117,7 +117,7 @@ window entries = last_items (published entries)
 abbrev pub grown_count : Past → Item → ℕ
 grown_count past item = count_by (λ (h : Held). grew h.state (served_by item (last_items past.published) (last_items (past.published ++ item ∷ [])) h).state) past.holds
 
--- the answer to an event; an event of a kind that isn't built is in no history
+-- the answer to an event
 abbrev pub answer : Past → ℕ → Event → Reply
 answer past who (Attach spec) = cond (has_place past.holds) (Attached (length past.holds)) (Full 4096)
 answer past who (Publish item) = cond (is_repeat (last_items past.published) item) (Repeat (id_or item.id [])) (Published (grown_count past item))
@@ -125,9 +125,9 @@ answer past who (Take hold now) = refused_or who hold (kept_at past.holds hold) 
 answer past who (Detach hold) = refused_or who hold (kept_at past.holds hold) (λ (h : Held). Done)
 answer past who (Page hold from to bytes then) = refused_or who hold (kept_at past.holds hold) (λ (h : Held). page_reply from h.state)
 answer past who (PageFailed hold) = refused_or who hold (kept_at past.holds hold) (λ (h : Held). failure_reply h.state)
-answer past who (Push hold message) = Done
-answer past who (Join hold channel) = Done
-answer past who (Leave hold channel) = Done
+answer past who (Push hold message) = refused_or who hold (kept_at past.holds hold) (λ (h : Held). change_reply (push message) h.state)
+answer past who (Join hold channel) = refused_or who hold (kept_at past.holds hold) (λ (h : Held). change_reply (join channel) h.state)
+answer past who (Leave hold channel) = refused_or who hold (kept_at past.holds hold) (λ (h : Held). change_reply (leave channel) h.state)
 
 -- the reply to an event after a history
 abbrev pub reply : List Entry → ℕ → Event → Reply

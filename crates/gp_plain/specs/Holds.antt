@@ -1,5 +1,6 @@
 -- A hold, and what happens to it.
-use Rattle.std.specs.Prelude.{ℕ, ◌+◌, Bool, true, false, cond, nat_le, nat_lt, not, ◌&&◌, ◌||◌, List, [], ◌∷◌, ◌++◌, length, map, fold, Option, Some, None, is_some, is_none, option_map}
+use Rattle.std.specs.Prelude.{ℕ, ◌+◌, Bool, true, false, cond, nat_le, nat_lt, not, ◌&&◌, ◌||◌, List, [], ◌∷◌, ◌++◌, length, map, filter, fold, Option, Some, None, is_some, is_none, option_map}
+use Rattle.std.specs.List.{list_any}
 use Rattle.std.specs.Option.{option_map_or, option_to_list}
 use Rattle.gp_plain.specs.Names.{same_id}
 use Rattle.gp_plain.specs.Items.{is_chained, is_id, comes_after, content_of, closes}
@@ -7,6 +8,10 @@ use Rattle.gp_plain.specs.Follow.{is_heard, follow}
 use Rattle.gp_plain.specs.Tails.{ahead}
 use Rattle.gp_plain.specs.Pieces.{id_or, moved, position_after, end_by, has_room, batch, left}
 use Rattle.gp_plain.specs.declared.item.Item.{Item}
+use Rattle.gp_plain.specs.declared.item.Message.{Message}
+use Rattle.gp_plain.specs.declared.item.Message.TheVariants.{Text, Binary, Close}
+use Rattle.gp_plain.specs.declared.item.MessagePart.{MessagePart}
+use Rattle.gp_plain.specs.declared.item.MessagePart.TheVariants.{Text as TextPart, Binary as BinaryPart, Close as ClosePart}
 use Rattle.gp_plain.specs.declared.item.ResponsePart.{ResponsePart}
 use Rattle.gp_plain.specs.declared.item.StreamPart.{StreamPart}
 use Rattle.gp_plain.specs.declared.event.HoldKind.{HoldKind}
@@ -16,14 +21,14 @@ use Rattle.gp_plain.specs.declared.event.HoldSpec.TheVariants.{Stream, Plain, Re
 use Rattle.gp_plain.specs.declared.event.Then.{Then}
 use Rattle.gp_plain.specs.declared.event.Then.TheVariants.{Hold as HoldOn, Next, End}
 use Rattle.gp_plain.specs.declared.reply.Piece.{Piece}
-use Rattle.gp_plain.specs.declared.reply.Piece.TheVariants.{Opening, Item as ItemPiece, Page as PagePiece, Answer as AnswerPiece}
+use Rattle.gp_plain.specs.declared.reply.Piece.TheVariants.{Opening, Item as ItemPiece, Page as PagePiece, Message as MessagePiece, Answer as AnswerPiece}
 use Rattle.gp_plain.specs.declared.reply.EndCause.{EndCause}
 use Rattle.gp_plain.specs.declared.reply.EndCause.TheVariants.{Closed, Detached, Gap, Unrecovered, Overflow, Retry, TimedOut}
 use Rattle.gp_plain.specs.declared.reply.Taken.{Taken}
 use Rattle.gp_plain.specs.declared.reply.Reply.{Reply}
-use Rattle.gp_plain.specs.declared.reply.Reply.TheVariants.{Paged, Stale, Done, Gone, OtherKind}
+use Rattle.gp_plain.specs.declared.reply.Reply.TheVariants.{Full, Paged, Stale, Done, Gone, OtherKind}
 
--- what a hold listens to: its kind, its channels, whether missing items can be asked of the origin, and the deadline
+-- what a hold listens to: its kind, its channels, which only a socket changes, whether missing items can be asked of the origin, and the deadline
 -- of a response hold
 pub record Terms : Type 0 where
   pub kind : HoldKind
@@ -174,13 +179,20 @@ abbrev pub answer_piece : Option ResponsePart → Item → List Piece
 answer_piece None item = []
 answer_piece (Some part) item = answer_of item ∷ []
 
+-- what a socket is sent of an item: a close has the code 1000 and no reason
+abbrev pub message_piece : Option MessagePart → List Piece
+message_piece None = []
+message_piece (Some (TextPart bytes)) = MessagePiece (Text bytes) ∷ []
+message_piece (Some (BinaryPart bytes)) = MessagePiece (Binary bytes) ∷ []
+message_piece (Some ClosePart) = MessagePiece (Close (Some 1000) []) ∷ []
+
 -- the run that an item on one of its channels brings a hold, by its kind and its position
 abbrev pub run_by : HoldKind → List (List ℕ) → Option (List ℕ) → Item → List Item → List Piece
 run_by StreamKind channels at item window = chain_run StreamKind (only_channel channels) at item window
 run_by PlainKind channels at item window = stream_piece item.stream item
 run_by ResponseKind channels None item window = answer_piece item.response item
 run_by ResponseKind channels (Some at) item window = chain_run ResponseKind (only_channel channels) (Some at) item window
-run_by SocketKind channels at item window = []
+run_by SocketKind channels at item window = message_piece item.message
 
 abbrev pub run_for : Terms → Option (List ℕ) → Item → List Item → List Piece
 run_for terms at item window = cond (is_heard terms.channels item) (run_by terms.kind terms.channels at item window) []
@@ -399,3 +411,54 @@ failed h = record h { state = after_failure h.state }
 
 abbrev pub failure_reply : State → Reply
 failure_reply s = reply_or (page_refusal s) Done
+
+-- what its owner does to a socket: it sends it a message, or it joins or leaves a channel
+pub data SocketChange : Type 0 where
+  push : Message → SocketChange
+  join : List ℕ → SocketChange
+  leave : List ℕ → SocketChange
+
+abbrev pub is_socket : HoldKind → Bool
+is_socket StreamKind = false
+is_socket PlainKind = false
+is_socket ResponseKind = false
+is_socket SocketKind = true
+
+abbrev pub change_refusal : State → Option Reply
+change_refusal s = refusal s.ended (is_socket s.terms.kind) s.terms.kind
+
+-- the channels but one
+abbrev pub without : List ℕ → List (List ℕ) → List (List ℕ)
+without channel channels = filter (λ (other : List ℕ). not (same_id other channel)) channels
+
+-- 8 channels other than it are joined
+abbrev pub is_crowded : List ℕ → List (List ℕ) → Bool
+is_crowded channel channels = nat_le 8 (length (without channel channels))
+
+-- the channels with one more, where it isn't among them
+abbrev pub joined : List ℕ → List (List ℕ) → List (List ℕ)
+joined channel channels = cond (list_any (λ (other : List ℕ). same_id other channel) channels) channels (channels ++ channel ∷ [])
+
+abbrev pub on_channels : List (List ℕ) → State → State
+on_channels channels s = record s { terms = record s.terms { channels = channels } }
+
+abbrev pub with_change : SocketChange → State → State
+with_change (push message) s = added s (MessagePiece message)
+with_change (join channel) s = cond (is_crowded channel s.terms.channels) s (on_channels (joined channel s.terms.channels) s)
+with_change (leave channel) s = on_channels (without channel s.terms.channels) s
+
+-- what a change does to a hold
+abbrev pub after_change : SocketChange → State → State
+after_change change s = cond (is_none (change_refusal s)) (with_change change s) s
+
+abbrev pub changed_by : SocketChange → Held → Held
+changed_by change h = record h { state = after_change change h.state }
+
+-- a Join is refused where there is no room for its channel
+abbrev pub done_or_full : SocketChange → List (List ℕ) → Reply
+done_or_full (push message) channels = Done
+done_or_full (join channel) channels = cond (is_crowded channel channels) (Full 8) Done
+done_or_full (leave channel) channels = Done
+
+abbrev pub change_reply : SocketChange → State → Reply
+change_reply change s = reply_or (change_refusal s) (done_or_full change s.terms.channels)

@@ -18,3 +18,4 @@ pub mod Taken
 pub mod Order
 pub mod Others
 pub mod Reports
+pub mod Sockets

@@ -4,6 +4,7 @@ ghost use Rattle.gp_plain.specs.Kinds.{KindLaw};
 ghost use Rattle.gp_plain.specs.Taken.{TakenLaw};
 ghost use Rattle.gp_plain.specs.Order.{OrderLaw};
 ghost use Rattle.gp_plain.specs.Ends.{AnswerLaw, PositionLaw, ToldLaw};
+ghost use Rattle.gp_plain.specs.Sockets.{SocketLaw};
 ghost use Rattle.gp_plain.specs.Others.{MovesLaw, OthersLaw, OwnersLaw, ReleasedLaw, ReleasedShareLaw, ReleasedSharesLaw};
 
 /// The chain law. In every history, whatever the order of its entries: for every chain that covers a reliable
@@ -89,4 +90,11 @@ pub fn answer_law()
 /// the end is told with it; Answered is told exactly so.
 pub fn kind_law()
     ensures { KindLaw }
+{}
+
+/// The law of sockets. What the log of a socket gets from a moment on are the messages that its owner pushes to it, and those of
+/// the items, but for repeats, that are published on the channels that it has joined by then, in the order of the history: all of
+/// them while it is live, and else a beginning of them.
+pub fn socket_law()
+    ensures { SocketLaw }
 {}

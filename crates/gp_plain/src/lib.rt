@@ -32,7 +32,7 @@ pub use http::{Address, Request, Response, Signer};
 pub use item::{Field, Fields, Item, Items, Message, MessagePart, Names, ResponsePart, StreamPart};
 pub use law::{
     answer_law, chain_law, kind_law, moves_law, order_law, others_law, owners_law, position_law,
-    released_law, released_shares_law, taken_law, told_law, window_law,
+    released_law, released_shares_law, socket_law, taken_law, told_law, window_law,
 };
 pub use list::List;
 pub use name::{ItemId, Name, NameFault, copy_id};
