@@ -6,7 +6,7 @@ use Rattle.std.proofs.lemmas.Bool.{and_from, and_parts, or_from, or_parts, le-le
 use Rattle.std.proofs.lemmas.Bool.Decides.{nat_tests}
 use Rattle.std.proofs.lemmas.List.Folds.{list_any-append}
 use Rattle.gp_plain.specs.Names.{same_id}
-use Rattle.gp_plain.specs.Fit.{is_built_spec, are_different, fits_channels, fits_spec, is_short_page}
+use Rattle.gp_plain.specs.Fit.{are_different, fits_channels, fits_spec, is_short_page}
 use Rattle.gp_plain.specs.declared.event.HoldSpec.{HoldSpec}
 use Rattle.gp_instruct.specs.declared.instruct.Sub.{Sub}
 use Rattle.gp_instruct.specs.declared.instruct.Instruct.{Instruct}
@@ -107,21 +107,7 @@ pub spec_fits : (instruct : Instruct) (asked : List Sub) (body : List ℕ) (now 
 spec_fits instruct asked body now again subs counted short =
     fit_held instruct.mode instruct body now again counted (ap (λ (s : List Sub). are_different (names_of s)) subs ∙ different_firsts asked) short
 
--- and it is of a kind that is built
-
-built_stream : (body : List ℕ) (subs : List Sub) (prev : Option (List ℕ)) (link : Bool) → is_built_spec (stream_spec body subs prev link) ≡ true
-built_stream body subs None link = refl
-built_stream body [] (Some prev) link = refl
-built_stream body (sub ∷ subs) (Some prev) link = refl
-
-built_held : (mode : Option Mode) (instruct : Instruct) (body : List ℕ) (now : ℕ) (again : Bool) → IfSome (held_by mode instruct body now again) (λ (held : HoldSpec). is_built_spec held ≡ true)
-built_held None instruct body now again = tt
-built_held (Some Stream) instruct body now again = built_stream body instruct.subs (only_prev instruct.subs) (is_some instruct.link)
-built_held (Some Response) instruct body now again = refl
-
 pub spec_law_holds : SpecLaw
 spec_law_holds = λ instruct opening now again held counted short e.
-    let within : fits_spec held ≡ true = subst (λ (o : Option HoldSpec). IfSome o (λ (h : HoldSpec). fits_spec h ≡ true)) e
-    (spec_fits instruct counted.asked opening now again counted.subs counted.count (le-leb (length opening) 262144 short)) in
-    let built : is_built_spec held ≡ true = subst (λ (o : Option HoldSpec). IfSome o (λ (h : HoldSpec). is_built_spec h ≡ true)) e (built_held instruct.mode instruct opening now again) in
-    and_from (is_built_spec held) (fits_spec held) built within
+    subst (λ (o : Option HoldSpec). IfSome o (λ (h : HoldSpec). fits_spec h ≡ true)) e
+    (spec_fits instruct counted.asked opening now again counted.subs counted.count (le-leb (length opening) 262144 short))

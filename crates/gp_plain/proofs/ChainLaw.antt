@@ -11,7 +11,6 @@ use Rattle.std.proofs.lemmas.List.Folds.{list_any-append, list_any_none}
 use Rattle.gp_plain.specs.declared.item.Item.{Item}
 use Rattle.gp_plain.specs.declared.item.StreamPart.{StreamPart}
 use Rattle.gp_plain.specs.declared.event.Entry.{Entry}
-use Rattle.gp_plain.specs.declared.event.HoldKind.{HoldKind}
 use Rattle.gp_plain.specs.declared.event.HoldKind.TheVariants.{Stream as StreamKind}
 use Rattle.gp_plain.specs.declared.event.Then.{Then}
 use Rattle.gp_plain.specs.declared.event.Then.TheVariants.{Hold as HoldOn, Next, End}
@@ -25,7 +24,7 @@ use Rattle.gp_plain.specs.Names.{same_id}
 use Rattle.gp_plain.specs.Items.{is_chained, is_id, comes_after, content_of, closes, is_on, goes_on_from}
 use Rattle.gp_plain.specs.Follow.{last_items, is_heard, without_first, going_on, follow_within, follow}
 use Rattle.gp_plain.specs.Pieces.{piece_bytes, text, moved, id_or, closed_by, end_by, has_room, batch, is_page, NoPage}
-use Rattle.gp_plain.specs.Holds.{Terms, State, Held, terms_of, is_live, added, run, marked, gapped, can_ask, offered, shows_gap, run_for, piece_of, settled_if, grew, served, opened, begun_state, timed, rest_of, end_or_detached, RecoveryPage, followers, is_stream, refusal, page_refusal, begins_at, takes_page, is_end, is_next, page_run, closed_behind, marked_anew, with_page, with_stale, after_page, SocketChange, is_socket, after_change}
+use Rattle.gp_plain.specs.Holds.{Terms, State, Held, terms_of, is_live, added, run, marked, gapped, can_ask, offered, shows_gap, run_for, piece_of, settled_if, grew, served, opened, begun_state, timed, rest_of, end_or_detached, RecoveryPage, followers, is_stream, page_refusal, begins_at, takes_page, is_end, is_next, page_run, closed_behind, marked_anew, with_page, with_stale, after_page, SocketChange, is_socket, after_change}
 use Rattle.gp_plain.specs.History.{held, published, window}
 use Rattle.gp_plain.specs.Chain.{Link, Chain, IsNoneOf, AreDistinct, bytes_of, last_id, IsIn, IsLinked, IsBetween, CoversIds, CoversItem, NoneCloses, ClosesLast, ClosesBy, IsHonest, Covers, ChainLaw, WindowLaw}
 use Rattle.gp_plain.proofs.Windows.{drop_all, all_front, all_last, window_more}

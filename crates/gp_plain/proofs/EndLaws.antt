@@ -3,7 +3,6 @@ use Rattle.std.proofs.Common.{◌≡◌, ◌⊎◌, inl, inr, ℕ, ◌+◌, Bool
 use Rattle.std.specs.List.{AllByRecursion}
 use Rattle.std.specs.Option.{option_map_or}
 use Rattle.gp_plain.specs.declared.item.Item.{Item}
-use Rattle.gp_plain.specs.declared.event.HoldKind.{HoldKind}
 use Rattle.gp_plain.specs.declared.event.HoldSpec.{HoldSpec}
 use Rattle.gp_plain.specs.declared.event.HoldSpec.TheVariants.{Stream, Plain, Response, Socket}
 use Rattle.gp_plain.specs.declared.reply.Piece.{Piece}
@@ -12,7 +11,7 @@ use Rattle.gp_plain.specs.declared.reply.EndCause.{EndCause}
 use Rattle.gp_plain.specs.declared.reply.EndCause.TheVariants.{Closed, Detached, Gap, Unrecovered, Overflow, Answered, Retry, TimedOut}
 use Rattle.gp_plain.specs.Pieces.{end_by, has_room, moved, left}
 use Rattle.gp_plain.specs.Follow.{last_items}
-use Rattle.gp_plain.specs.Holds.{State, Held, openings, opened, only_channel, followers, begun_state, is_live, added, run, marked, missed, gapped, can_ask, offered, shows_gap, run_for, settled_if, grew, timed, rest_of, ends_now, taken_of, end_or_detached, RecoveryPage, page_refusal, refusal, is_stream, begins_at, is_end, page_run, with_page, with_stale, after_page, after_failure, SocketChange, push, join, leave, is_crowded, joined, on_channels, change_refusal, with_change, after_change}
+use Rattle.gp_plain.specs.Holds.{State, Held, openings, opened, only_channel, followers, begun_state, is_live, added, run, marked, missed, gapped, can_ask, offered, shows_gap, run_for, settled_if, grew, timed, rest_of, ends_now, taken_of, end_or_detached, RecoveryPage, page_refusal, is_stream, begins_at, is_end, page_run, with_page, with_stale, after_page, after_failure, SocketChange, push, join, leave, is_crowded, joined, on_channels, change_refusal, with_change, after_change}
 use Rattle.gp_plain.specs.History.{held, published}
 use Rattle.gp_plain.specs.Ends.{PositionLaw, ToldLaw, IsBrought, EndsByPiece, AnswerLaw}
 use Rattle.gp_plain.proofs.Histories.{IsKept, in_each_history, all_at}

@@ -10,7 +10,6 @@ use Rattle.gp_plain.specs.declared.item.MessagePart.{MessagePart}
 use Rattle.gp_plain.specs.declared.item.MessagePart.TheVariants.{Text as TextPart, Binary as BinaryPart, Close as ClosePart}
 use Rattle.gp_plain.specs.declared.item.ResponsePart.{ResponsePart}
 use Rattle.gp_plain.specs.declared.item.StreamPart.{StreamPart}
-use Rattle.gp_plain.specs.declared.event.HoldKind.{HoldKind}
 use Rattle.gp_plain.specs.declared.event.HoldSpec.{HoldSpec}
 use Rattle.gp_plain.specs.declared.event.HoldSpec.TheVariants.{Stream, Plain, Response, Socket}
 use Rattle.gp_plain.specs.declared.reply.Piece.{Piece}
@@ -20,7 +19,7 @@ use Rattle.gp_plain.specs.declared.reply.EndCause.TheVariants.{Closed, Detached,
 use Rattle.gp_plain.specs.Items.{closes}
 use Rattle.gp_plain.specs.Pieces.{position_after, closed_by, end_by, has_room, moved, batch_count, batch, left}
 use Rattle.gp_plain.specs.Follow.{last_items, is_heard, follow}
-use Rattle.gp_plain.specs.Holds.{Terms, State, Held, terms_of, start_of, opened, only_channel, followers, comes_next, leaves_gap, run_by, run_for, piece_by, answer_or, ends_by, stream_piece, answer_piece, begun_state, is_live, is_ahead, wants_more, added, run, marked, missed, gapped, can_ask, offered, shows_gap, settled_if, grew, timed, rest_of, ends_now, asks, is_retry, repeats, recover_from, given, taken_of, RecoveryPage, refusal, is_stream, page_refusal, begins_at, is_end, is_next, page_run, closed_behind, marked_anew, with_page, with_stale, SocketChange, push, join, leave, is_socket, is_crowded, joined, on_channels, change_refusal, with_change, message_piece}
+use Rattle.gp_plain.specs.Holds.{Terms, State, Held, terms_of, start_of, opened, only_channel, followers, comes_next, leaves_gap, run_by, run_for, piece_by, answer_or, ends_by, stream_piece, answer_piece, begun_state, is_live, is_ahead, wants_more, added, run, marked, missed, gapped, can_ask, offered, shows_gap, settled_if, grew, timed, rest_of, ends_now, asks, is_retry, repeats, recover_from, given, taken_of, RecoveryPage, is_stream, page_refusal, begins_at, is_end, is_next, page_run, closed_behind, marked_anew, with_page, with_stale, SocketChange, push, join, leave, is_socket, is_crowded, joined, on_channels, change_refusal, with_change, message_piece}
 use Rattle.gp_plain.specs.History.{held}
 use Rattle.gp_plain.specs.Kinds.{may_end, RecoverFits, TakenFits, KindLaw}
 use Rattle.gp_plain.proofs.Histories.{IsKept, in_each_history, all_at}

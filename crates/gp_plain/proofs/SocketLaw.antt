@@ -1,5 +1,5 @@
 -- A socket gets the messages that are pushed and published to it.
-use Rattle.std.proofs.Common.{◌≡◌, ℕ, zero, suc, ◌==◌, Bool, true, false, cond, not, ◌&&◌, List, [], ◌∷◌, ◌++◌, map, fold, arith, refl, sym, ap, ◌∙◌, subst, append_assoc, slice_get, Option, Some, None, is_none, is_some, option_map}
+use Rattle.std.proofs.Common.{◌≡◌, ℕ, zero, suc, ◌==◌, Bool, true, false, cond, not, ◌&&◌, List, [], ◌∷◌, ◌++◌, map, arith, refl, sym, ap, ◌∙◌, subst, append_assoc, slice_get, Option, Some, None, is_none, is_some, option_map}
 use Rattle.std.proofs.lemmas.Bool.Decides.{nat_tests}
 use Rattle.std.proofs.lemmas.List.{append-nil}
 use Rattle.std.proofs.lemmas.List.Sums.{fold-append}
@@ -16,9 +16,9 @@ use Rattle.gp_plain.specs.declared.reply.Piece.{Piece}
 use Rattle.gp_plain.specs.declared.reply.Piece.TheVariants.{Message as MessagePiece}
 use Rattle.gp_plain.specs.declared.reply.EndCause.{EndCause}
 use Rattle.gp_plain.specs.declared.reply.EndCause.TheVariants.{Overflow}
-use Rattle.gp_plain.specs.Pieces.{moved, end_by, has_room, batch, left}
+use Rattle.gp_plain.specs.Pieces.{moved, end_by, has_room}
 use Rattle.gp_plain.specs.Follow.{last_items, is_heard, is_repeat}
-use Rattle.gp_plain.specs.Holds.{Terms, State, Held, log, is_live, added, run, gapped, offered, shows_gap, leaves_gap, run_by, run_for, message_piece, settled_if, grew, served, begun, timed, taken_from, let_go, is_stream, is_socket, refusal, change_refusal, RecoveryPage, paged_from, failed, push, join, leave, is_crowded, joined, on_channels, with_change, after_change, changed_by}
+use Rattle.gp_plain.specs.Holds.{Terms, State, Held, log, is_live, added, run, gapped, offered, shows_gap, leaves_gap, run_by, run_for, message_piece, settled_if, grew, begun, timed, taken_from, let_go, is_stream, is_socket, refusal, change_refusal, RecoveryPage, paged_from, failed, push, join, leave, is_crowded, joined, on_channels, with_change, after_change, changed_by}
 use Rattle.gp_plain.specs.History.{Past, page_of, if_kept, kept_at, has_place, changed_if, changed, served_by, with_item, with_hold, after_event, after, nothing, past_of, held, published}
 use Rattle.gp_plain.specs.Sockets.{heard, pushed, brought, all_brought, HasGot, SocketLaw}
 use Rattle.gp_plain.proofs.Histories.{all_at}

@@ -1,5 +1,5 @@
--- Which events are within the limits, and which kinds of them are built.
-use Rattle.std.specs.Prelude.{ℕ, Bool, true, false, nat_le, ◌==◌, ◌&&◌, ◌||◌, not, List, [], ◌∷◌, length, Option, Some, None, is_none}
+-- Which events are within the limits.
+use Rattle.std.specs.Prelude.{ℕ, Bool, true, nat_le, ◌==◌, ◌&&◌, ◌||◌, not, List, [], ◌∷◌, length, Option, Some, None, is_none}
 use Rattle.std.specs.List.{list_any}
 use Rattle.gp_plain.specs.Names.{same_id}
 use Rattle.gp_plain.specs.declared.item.Item.{Item}
@@ -69,36 +69,14 @@ fits_spec (Plain opening channels) = is_short_page opening && fits_channels chan
 fits_spec (Response channels prev deadline again) = fits_channels channels && (is_none prev || (length channels == 1))
 fits_spec Socket = true
 
--- within the limits
-abbrev pub is_within : Event → Bool
-is_within (Attach spec) = fits_spec spec
-is_within (Publish item) = fits_item item
-is_within (Take hold now) = true
-is_within (Page hold from to bytes then) = is_short_page bytes
-is_within (PageFailed hold) = true
-is_within (Push hold message) = fits_message message
-is_within (Join hold channel) = true
-is_within (Leave hold channel) = true
-is_within (Detach hold) = true
-
--- a hold that isn't a socket
-abbrev pub is_built_spec : HoldSpec → Bool
-is_built_spec (Stream opening channel prev link) = true
-is_built_spec (Plain opening channels) = true
-is_built_spec (Response channels prev deadline again) = true
-is_built_spec Socket = false
-
--- the kinds that are built
-abbrev pub is_built : Event → Bool
-is_built (Attach spec) = is_built_spec spec
-is_built (Publish item) = true
-is_built (Take hold now) = true
-is_built (Page hold from to bytes then) = true
-is_built (PageFailed hold) = true
-is_built (Push hold message) = false
-is_built (Join hold channel) = false
-is_built (Leave hold channel) = false
-is_built (Detach hold) = true
-
+-- the event is within the limits
 abbrev pub fits : Event → Bool
-fits event = is_built event && is_within event
+fits (Attach spec) = fits_spec spec
+fits (Publish item) = fits_item item
+fits (Take hold now) = true
+fits (Page hold from to bytes then) = is_short_page bytes
+fits (PageFailed hold) = true
+fits (Push hold message) = fits_message message
+fits (Join hold channel) = true
+fits (Leave hold channel) = true
+fits (Detach hold) = true

@@ -21,6 +21,17 @@ with_plan s Nothing = s
 with_plan s Gap = gapped s
 with_plan s (Grow run position) = grown s run
 
+-- a hold without a position is given a run of pieces, which can be added with no further memory
+pub record IsRunReady (m : Machine) (run : Growth) : Type 0 where
+  pub live : m.state.ended ≡ None
+  pub room : IsReady (roomy m.state.pending m.spare) run
+
+-- the run makes this of the hold
+pub record IsRunPlanned (m : Machine) (after : State) (run : Growth) : Type 0 where
+  pub ready : IsRunReady m run
+  pub effect : grown m.state run ≡ after
+  pub told : not (length run.pieces == 0) ≡ grew m.state after
+
 -- the log grows
 abbrev pub grows : Plan → Bool
 grows Nothing = false

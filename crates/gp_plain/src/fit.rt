@@ -1,7 +1,7 @@
 ghost use Rattle.std.specs.Prelude.{◌≡◌, ℕ, List};
 ghost use Rattle.std.specs.List.{list_any};
 ghost use Rattle.gp_plain.specs.Names.{same_id};
-ghost use Rattle.gp_plain.specs.Fit.{are_different, fits, fits_channels, fits_close, fits_item, fits_message, fits_message_part, fits_response, fits_spec, fits_stream, is_built, is_built_spec, is_within};
+ghost use Rattle.gp_plain.specs.Fit.{are_different, fits, fits_channels, fits_close, fits_item, fits_message, fits_message_part, fits_response, fits_spec, fits_stream};
 
 use crate::body::Body;
 use crate::event::{Event, HoldSpec};
@@ -119,20 +119,13 @@ impl HoldSpec {
             HoldSpec::Socket => true,
         }
     }
-
-    fn is_built(&self) -> bool
-        ensures { result ≡ is_built_spec self.now }
-    {
-        match self {
-            HoldSpec::Socket => false,
-            _ => true,
-        }
-    }
 }
 
 impl Event {
-    fn is_within(&self) -> bool
-        ensures { result ≡ is_within self.now }
+    /// Whether it is within the limits: 262,144 bytes of an opening and of a page, 1 to 8 different channels of a hold, and one
+    /// of a response hold with a previous id; and those of items and of messages. It takes no memory.
+    pub fn fits(&self) -> bool
+        ensures { result ≡ fits self.now }
     {
         match self {
             Event::Attach { spec } => spec.fits(),
@@ -145,29 +138,5 @@ impl Event {
             Event::Leave { .. } => true,
             Event::Detach { .. } => true,
         }
-    }
-
-    fn is_built(&self) -> bool
-        ensures { result ≡ is_built self.now }
-    {
-        match self {
-            Event::Attach { spec } => spec.is_built(),
-            Event::Publish { .. } => true,
-            Event::Take { .. } => true,
-            Event::Page { .. } => true,
-            Event::PageFailed { .. } => true,
-            Event::Push { .. } => false,
-            Event::Join { .. } => false,
-            Event::Leave { .. } => false,
-            Event::Detach { .. } => true,
-        }
-    }
-
-    /// Whether it is within the limits, and of a kind that is built: the attach of a stream, a plain hold or a response
-    /// hold, a publication, a take, a page or its failure, and a detach. It takes no memory.
-    pub fn fits(&self) -> bool
-        ensures { result ≡ fits self.now }
-    {
-        self.is_built() && self.is_within()
     }
 }

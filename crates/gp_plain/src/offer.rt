@@ -1,13 +1,14 @@
 //! What an item says to a stream at a position.
 ghost use Rattle.std.specs.Prelude.{◌≡◌, IfOk, Some, option_map};
 ghost use Rattle.gp_plain.specs.Follow.{is_heard};
-ghost use Rattle.gp_plain.specs.Holds.{answer_of, comes_next, ends_by, leaves_gap, piece_by, piece_of};
+ghost use Rattle.std.specs.Option.{option_to_list};
+ghost use Rattle.gp_plain.specs.Holds.{answer_of, comes_next, ends_by, leaves_gap, message_piece, piece_by, piece_of};
 ghost use Rattle.gp_plain.specs.Items.{closes, is_id, is_on};
 ghost use Rattle.gp_plain.specs.Pieces.{closed_by_message, end_by, message_bytes, moves_to, piece_bytes};
 
 use crate::body::Body;
 use crate::event::HoldKind;
-use crate::item::{Item, Message, Names, StreamPart};
+use crate::item::{Item, Message, MessagePart, Names, StreamPart};
 use crate::name::{ItemId, Name, copy_id};
 use crate::reply::{EndCause, Piece};
 use std::alloc::{AllocError, Global};
@@ -102,6 +103,23 @@ impl Item {
                 close: false,
             }),
         }
+    }
+
+    /// What a socket is sent of it, where it has a part for sockets: a close has the code 1000 and no reason (RFC 6455, section
+    /// 7.4.1).
+    pub fn message_piece(&self, alloc: Global) -> Result<Option<Piece>, AllocError>
+        ensures { IfOk result (λ piece. option_to_list piece ≡ message_piece self.now.message) }
+    {
+        let message = match &self.message {
+            Some(MessagePart::Text(bytes)) => Message::Text(bytes.copy(alloc)?),
+            Some(MessagePart::Binary(bytes)) => Message::Binary(bytes.copy(alloc)?),
+            Some(MessagePart::Close) => Message::Close {
+                code: Some(1000),
+                reason: Body::empty(alloc),
+            },
+            None => return Ok(None),
+        };
+        Ok(Some(Piece::Message(message)))
     }
 
     /// What the log of a hold with a position has of it, by the kind of the hold.

@@ -1,6 +1,6 @@
-ghost use Rattle.std.specs.Prelude.{◌≡◌, ◌+◌, ◌-◌, ◌^◌, ◌<◌, ◌≤◌, ◌==◌, ◌++◌, [], ℕ, List, length, take, drop, min, sum_by, IfOk, OnOk, OnErr, MatchOption};
+ghost use Rattle.std.specs.Prelude.{◌≡◌, ◌+◌, ◌-◌, ◌^◌, ◌<◌, ◌≤◌, ◌==◌, ◌++◌, ◌∷◌, [], cond, IfErr, ℕ, List, length, take, drop, min, sum_by, IfOk, OnOk, OnErr, MatchOption};
 ghost use Rattle.gp_plain.specs.Growth.{IsReady};
-ghost use Rattle.gp_plain.specs.Pieces.{batch, batch_count, count_within, left, message_weight, weight};
+ghost use Rattle.gp_plain.specs.Pieces.{batch, batch_count, count_within, has_room, left, message_weight, weight};
 ghost use Rattle.std.specs.VecDeque.{deque_capacity};
 ghost use Rattle.gp_plain.specs.Roomy.{roomy};
 
@@ -208,6 +208,26 @@ impl Pending {
         ensures { result ≡ self.now.spare }
     {
         self.pieces.capacity() - self.pieces.len()
+    }
+
+    /// Adds a piece at the end where there is room for it within the limits, and says whether there was. Where memory is wanting
+    /// it hands the piece back, and nothing has changed.
+    pub fn push(&mut self, piece: Piece) -> Result<bool, (Piece, AllocError)>
+        ensures told { IfOk result (λ added. added ≡ has_room self.old.items piece) }
+        ensures items { OnOk result (self.new.items ≡ cond (has_room self.old.items piece) (self.old.items ++ piece ∷ []) self.old.items) }
+        ensures err { IfErr result (λ e. (e.0 ≡ piece) × (self.new.items ≡ self.old.items)) }
+    {
+        let weight = match piece.weight() {
+            Some(weight) if weight <= BYTES - self.bytes && self.pieces.len() < PIECES => weight,
+            _ => return Ok(false),
+        };
+        match self.pieces.push_back(piece) {
+            Ok(()) => {
+                self.bytes += weight;
+                Ok(true)
+            }
+            Err(refused) => Err((refused.value, AllocError)),
+        }
     }
 
     /// Adds the pieces of a run at the end. It takes no memory.

@@ -7,7 +7,7 @@ use Rattle.std.specs.Option.{option_map}
 use Rattle.std.proofs.lemmas.Bool.{and_parts, eqb-true}
 use Rattle.std.proofs.lemmas.List.{nil_from_length}
 use Rattle.std.proofs.lemmas.List.Elements.{All-nil, All-cons, All-head, All-tail, All-append}
-use Rattle.gp_plain.specs.Fit.{is_within, fits_channels, is_short_page}
+use Rattle.gp_plain.specs.Fit.{fits, fits_channels, is_short_page}
 use Rattle.gp_plain.specs.declared.item.Item.{Item}
 use Rattle.gp_plain.specs.declared.item.Field.{Field}
 use Rattle.gp_plain.specs.declared.item.ResponsePart.{ResponsePart}
@@ -109,7 +109,7 @@ pub record Good (event : Event) (words : List (List ℕ)) : Type 0 where
   pub marked : Marked 32 words
   pub back : event_of words ≡ event
 
-good_spec : (spec : HoldSpec) → IsSpec spec → is_within (Attach spec) ≡ true → Good (Attach spec) (spec_words spec)
+good_spec : (spec : HoldSpec) → IsSpec spec → fits (Attach spec) ≡ true → Good (Attach spec) (spec_words spec)
 good_spec Socket h fit = record { some = omega arith; marked = (text (codes "attach") refl, (text (codes "socket") refl, tt)); back = refl }
 good_spec (Stream opening channel prev link) h fit = record {
   some = omega arith;
@@ -291,7 +291,7 @@ good_page hold from to bytes then h = record {
       ∙ ap (λ (x : Then). Page hold from to bytes x) (then_back then);
 }
 
-pub good : (event : Event) (words : List (List ℕ)) → IsEvent event → is_within event ≡ true → words_of event ≡ Some words → Good event words
+pub good : (event : Event) (words : List (List ℕ)) → IsEvent event → fits event ≡ true → words_of event ≡ Some words → Good event words
 good (Attach spec) words h fit e = from (Attach spec) (spec_words spec) words (good_spec spec h fit) e
 good (Publish item) words h fit e = good_item item item.response item.stream item.message words h refl refl refl h.response h.stream h.message e
 good (Take hold now) words h fit e =
@@ -338,7 +338,7 @@ cut_again (w ∷ ws) some marked = slice_split-joined 32 w ws marked
 
 pub guessed : (line : List ℕ) (event : Event) → IsEvent event → Spells line event → event_of (slice_split (λ (b : ℕ). eqb b 32) line) ≡ event
 guessed line event made spells =
-    let s = spelled_words (is_within event) (words_of event) line spells.spelled in
+    let s = spelled_words (fits event) (words_of event) line spells.spelled in
     let g = good event s.1.0 made s.0 s.1.1 in
     ap (λ (l : List ℕ). event_of (slice_split (λ (b : ℕ). eqb b 32) l)) (sym s.1.2) ∙ ap event_of (cut_again s.1.0 g.some g.marked) ∙ g.back
 

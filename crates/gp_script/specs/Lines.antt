@@ -2,7 +2,7 @@
 use Rattle.std.specs.Prelude.{ℕ, ◌≡◌, ◌==◌, ◌<◌, ◌^◌, ◌&&◌, nat_le, Bool, true, false, cond, List, [], ◌∷◌, length, All, Option, Some, None, option_map, codes}
 use Rattle.std.specs.Fmt.{decimal}
 use Rattle.gp_plain.specs.Names.{IsName}
-use Rattle.gp_plain.specs.Fit.{fits, is_within}
+use Rattle.gp_plain.specs.Fit.{fits}
 use Rattle.gp_plain.specs.declared.item.Item.{Item}
 use Rattle.gp_plain.specs.declared.item.ResponsePart.{ResponsePart}
 use Rattle.gp_plain.specs.declared.item.StreamPart.{StreamPart}
@@ -88,7 +88,7 @@ words_of (Detach hold) = Some (codes "detach" ∷ decimal hold ∷ [])
 
 -- the line of an event, without its line feed: one that is within the limits and whose form has a line
 abbrev pub line_of : Event → Option (List ℕ)
-line_of event = cond (is_within event) (option_map joined (words_of event)) None
+line_of event = cond (fits event) (option_map joined (words_of event)) None
 
 -- bytes are below 256
 abbrev pub IsBytes : List ℕ → Type 0

@@ -3,7 +3,6 @@ ghost use Rattle.std.specs.Fmt.{decimal};
 ghost use Rattle.gp_script.specs.Spelling.{joined, word};
 ghost use Rattle.gp_script.specs.Lines.{answer_words, again_word, hangup_words, item_line, item_words, line_of, link_word, push_words, spec_words, then_word, words_of};
 
-use crate::limits::is_within;
 use crate::line::Line;
 use gp_plain::{
     Body, Event, HoldSpec, Item, ItemId, Message, MessagePart, Name, ResponsePart, StreamPart, Then,
@@ -208,7 +207,7 @@ fn event_line(alloc: Global, event: &Event) -> Result<Option<Line>, AllocError>
 pub fn write_line(alloc: Global, event: &Event) -> Result<Option<Body>, AllocError>
     ensures { IfOk result (λ line. line ≡ line_of event.now) }
 {
-    if !is_within(event) {
+    if !event.fits() {
         return Ok(None);
     }
     match event_line(alloc, event)? {

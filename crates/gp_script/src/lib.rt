@@ -7,7 +7,6 @@
 
 mod events;
 mod fault;
-mod limits;
 mod line;
 mod read;
 mod texts;
