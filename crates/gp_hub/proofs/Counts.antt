@@ -6,8 +6,8 @@ use Rattle.gp_plain.specs.declared.event.Entry.{Entry}
 use Rattle.gp_plain.specs.declared.event.Event.{Event}
 use Rattle.gp_plain.specs.declared.event.Event.TheVariants.{Attach, Publish, Take, Page, PageFailed, Push, Join, Leave, Detach}
 use Rattle.gp_plain.specs.Follow.{last_items, is_repeat}
-use Rattle.gp_plain.specs.Holds.{Held, begun, taken_from, let_go}
-use Rattle.gp_plain.specs.History.{Past, has_place, changed, served_by, with_item, with_hold, after_event, after, nothing, held}
+use Rattle.gp_plain.specs.Holds.{Held, begun, taken_from, paged_from, failed, let_go}
+use Rattle.gp_plain.specs.History.{Past, page_of, has_place, changed, served_by, with_item, with_hold, after_event, after, nothing, held}
 use Rattle.gp_plain.specs.Standing.{Standing, StandsFor}
 
 changed_count : (who number : ℕ) (change : Held → Held) (hs : List Held) → length (changed who number change hs) ≡ length hs
@@ -28,8 +28,8 @@ one_count past who (Attach spec) = attached_count past (begun who spec (last_ite
 one_count past who (Publish item) = served_count past item (is_repeat (last_items past.published) item)
 one_count past who (Take hold now) = omega (arith, changed_count who hold (taken_from now) past.holds)
 one_count past who (Detach hold) = omega (arith, changed_count who hold let_go past.holds)
-one_count past who (Page hold from to bytes then) = omega arith
-one_count past who (PageFailed hold) = omega arith
+one_count past who (Page hold from to bytes then) = omega (arith, changed_count who hold (paged_from (last_items past.published) (page_of from to bytes then)) past.holds)
+one_count past who (PageFailed hold) = omega (arith, changed_count who hold failed past.holds)
 one_count past who (Push hold message) = omega arith
 one_count past who (Join hold channel) = omega arith
 one_count past who (Leave hold channel) = omega arith

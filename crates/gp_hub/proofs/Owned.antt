@@ -3,28 +3,38 @@ use Rattle.std.proofs.Common.{◌≡◌, ℕ, zero, suc, ◌+◌, ◌<◌, ◌�
 use Rattle.std.specs.Prelude.{option_to_list}
 use Rattle.std.specs.List.{All}
 use Rattle.std.proofs.lemmas.List.Sums.{fold-append}
-use Rattle.std.proofs.lemmas.List.Elements.{filter-append, All-head, All-tail}
+use Rattle.std.proofs.lemmas.List.Elements.{filter-append, All-head, All-tail, All-nil, All-cons}
 use Rattle.gp_plain.specs.declared.event.Entry.{Entry}
 use Rattle.gp_plain.specs.declared.event.Event.{Event}
-use Rattle.gp_plain.specs.declared.event.Event.TheVariants.{Attach, Publish, Take, Detach}
+use Rattle.gp_plain.specs.declared.event.Event.TheVariants.{Attach, Publish, Take, PageFailed, Detach}
+use Rattle.gp_plain.specs.declared.event.HoldKind.{HoldKind}
 use Rattle.gp_plain.specs.declared.event.HoldSpec.{HoldSpec}
 use Rattle.gp_plain.specs.declared.reply.Reply.{Reply}
 use Rattle.gp_plain.specs.declared.reply.Reply.TheVariants as reply
+use Rattle.gp_plain.specs.declared.reply.EndCause.{EndCause}
 use Rattle.gp_plain.specs.declared.reply.Taken.{Taken}
 use Rattle.gp_plain.specs.Pieces.{id_or}
 use Rattle.gp_plain.specs.Follow.{last_items, is_repeat}
 use Rattle.gp_plain.specs.Kinds.{TakenFits}
 use Rattle.gp_plain.specs.declared.item.Item.{Item}
-use Rattle.gp_plain.specs.Holds.{Held, begun, taken_of, taken_from, let_go}
+use Rattle.gp_plain.specs.Holds as holds
+use Rattle.gp_plain.specs.Holds.{Terms, Held, RecoveryPage, begun, taken_of, taken_from, paged_from, failed, begins_at, is_stream, refusal, page_refusal, reply_or, failure_reply, let_go}
 use Rattle.gp_plain.specs.History as history
-use Rattle.gp_plain.specs.History.{Past, has_place, if_kept, kept_at, refused_or, changed_if, changed, with_hold, after_event, after, nothing, past_of, held, grown_count}
-use Rattle.gp_plain.specs.Others.{Share, share_of, share_at, shares_from, shares, IsOfAnother}
+use Rattle.gp_plain.specs.History.{Past, window, has_place, if_kept, kept_at, refused_or, changed_if, changed, with_hold, after_event, after, nothing, past_of, held, published as published_items, grown_count}
+use Rattle.gp_plain.specs.Others.{Share, share_of, share_at, shares_from, shares, IsOfAnother, MovesShares}
 use Rattle.gp_plain.proofs.OthersLaw.{differs, others_law_holds, owners_law_holds, published_shares, share_if}
 use Rattle.gp_plain.proofs.KindLaws.{kind_law_holds}
+use Rattle.gp_plain.proofs.ShareLaws.{moves_law_holds}
+use Rattle.gp_plain.proofs.Histories.{all_at}
+use Rattle.gp_plain.proofs.Soundness.{IsSound, are_sound}
 use Rattle.gp_turn.proofs.Owners.{others_by_number}
 use Rattle.gp_hub.specs.Passes.{HubView, GoesOnFrom, IsSame, entry_of, who_of}
 use Rattle.gp_hub.specs.Calls.{HasCalled}
-use Rattle.gp_hub.specs.Own.{Keeps, HasMade, HasNewHold, HasAttached, HasTaken, HasDetached, HasPublished, FreshLaw, fresh_share, share_with, share_gone, with_share, attach_reply, publish_reply}
+use Rattle.gp_hub.specs.declared.own.PageReply.{PageReply}
+use Rattle.gp_hub.specs.declared.own.PageReply.TheVariants as answer
+use Rattle.gp_hub.specs.declared.own.FailedReply.{FailedReply}
+use Rattle.gp_hub.specs.declared.own.FailedReply.TheVariants as failure
+use Rattle.gp_hub.specs.Own.{Keeps, HasMade, HasNewHold, HasAttached, HasTaken, HasPaged, HasFailed, HasDetached, HasPublished, FreshLaw, fresh_share, share_with, share_gone, with_share, attach_reply, publish_reply, IsOtherKind, page_reply, page_event, failed_reply}
 
 same_some : {A : Type 0} {x y : A} → Some x ≡ Some y → x ≡ y
 same_some e = cc
@@ -111,15 +121,15 @@ record OwnCall (p q : HubView) (before : List Entry) (hold : ℕ) (r : Reply) (a
   now : slice_get (held q.seen) hold ≡ Some (f h)
 
 own_call : (p q : HubView) (hold : ℕ) (event : Event) (r : Reply) (answer : Held → Reply) (f : Held → Held) (k : Keeps p hold) → IsSame p q → (c : HasCalled p q event r)
-    → ((past : Past) → history.answer past p.number event ≡ refused_or p.number hold (kept_at past.holds hold) answer)
-    → ((past : Past) → (after_event past p.number event).holds ≡ changed p.number hold f past.holds)
+    → history.answer (past_of c.before) p.number event ≡ refused_or p.number hold (kept_at (held c.before) hold) answer
+    → (after_event (past_of c.before) p.number event).holds ≡ changed p.number hold f (held c.before)
     → OwnCall p q c.before hold r answer f k.share
 own_call p q hold event r answer f k same c answers changes =
     let st : Stands (held c.before) hold k.share = stands p c.before hold k.share c.goes_on same.some k.there k.own in
     let own : st.h.owner ≡ p.number = ap (λ (s : Share). s.owner) st.is ∙ k.own in
     let kept : st.h.released ≡ false = ap (λ (s : Share). s.released) st.is ∙ k.kept in
     let holds : held q.seen ≡ changed p.number hold f (held c.before) =
-    ap held c.seen ∙ ap (λ (past : Past). past.holds) (after_last c.before p.number event) ∙ changes (past_of c.before) in
+    ap held c.seen ∙ ap (λ (past : Past). past.holds) (after_last c.before p.number event) ∙ changes in
     record {
       h = st.h;
       is = st.is;
@@ -127,7 +137,7 @@ own_call p q hold event r answer f k same c answers changes =
       own = own;
       kept = kept;
       holds = holds;
-      replied = c.reply_is ∙ answers (past_of c.before) ∙ kept_reply (held c.before) p.number hold st.h answer st.there kept own;
+      replied = c.reply_is ∙ answers ∙ kept_reply (held c.before) p.number hold st.h answer st.there kept own;
       now = ap (λ (hs : List Held). slice_get hs hold) holds ∙ changed_at p.number f (held c.before) hold st.h st.there kept own;
     }
 
@@ -194,7 +204,7 @@ same_taken e = cc
 take_call : (p q : HubView) (hold now : ℕ) (r : Reply) (k : Keeps p hold) → IsSame p q → (c : HasCalled p q (Take hold now) r)
     → OwnCall p q c.before hold r (λ (h : Held). reply.Taken (taken_of now h.state)) (taken_from now) k.share
 take_call p q hold now r k same c =
-    own_call p q hold (Take hold now) r (λ (h : Held). reply.Taken (taken_of now h.state)) (taken_from now) k same c (λ past. refl) (λ past. refl)
+    own_call p q hold (Take hold now) r (λ (h : Held). reply.Taken (taken_of now h.state)) (taken_from now) k same c refl refl
 
 pub take_answers : (p q : HubView) (hold now : ℕ) (r : Reply) → Keeps p hold → IsSame p q → HasCalled p q (Take hold now) r → (t : Taken) × (r ≡ reply.Taken t)
 take_answers p q hold now r k same c = let o = take_call p q hold now r k same c in (taken_of now o.h.state, o.replied)
@@ -223,11 +233,133 @@ took p q hold now t k same c =
       keeps = λ e. record { share = share_with k.share t; there = share; own = k.own ∙ sym same.number; kept = ap is_some e };
     }
 
+-- an event that moves no share of a hold
+
+unmoved : (p q : HubView) (event : Event) (before : List Entry) → q.seen ≡ before ++ entry_of p.number event ∷ [] → (MovesShares event → ⊥) → IsSame p q → GoesOnFrom p before
+    → shares p.number q.seen ≡ shares p.number p.seen
+unmoved p q event before seen moves same c =
+    let still : Entry → Type 0 = λ (entry : Entry). MovesShares entry.event → ⊥ in
+    ap (shares p.number) seen
+    ∙ moves_law_holds before (entry_of p.number event ∷ []) p.number (All-cons still (entry_of p.number event) [] moves (All-nil still))
+    ∙ shares_before p q before same c
+
+same_share : (p q : HubView) (before : List Entry) (hold : ℕ) (r : Reply) (answer : Held → Reply) (f : Held → Held) (k : Keeps p hold) → (o : OwnCall p q before hold r answer f k.share) → share_of (f o.h) ≡ share_of o.h
+    → share_at (held q.seen) hold ≡ share_at (held p.seen) hold
+same_share p q before hold r answer f k o is = ap (option_map share_of) o.now ∙ ap Some (is ∙ o.is) ∙ sym k.there
+
+keeps_on : (p q : HubView) (hold : ℕ) → (k : Keeps p hold) → IsSame p q → share_at (held q.seen) hold ≡ share_at (held p.seen) hold → Keeps q hold
+keeps_on p q hold k same share = record { share = k.share; there = share ∙ k.there; own = k.own ∙ sym same.number; kept = k.kept }
+
+-- another kind, by what the hold was attached with
+
+same_kind : {a b : HoldKind} → reply.OtherKind a ≡ reply.OtherKind b → a ≡ b
+same_kind e = cc
+
+other_by : (other kind : HoldKind) (ended : Option EndCause) (has : Bool) (rest : Reply) → (reply.OtherKind other ≡ rest → ⊥) → reply.OtherKind other ≡ reply_or (refusal ended has kind) rest → (other ≡ kind) × (has ≡ false)
+other_by other kind (Some cause) has rest none e = absurd cc
+other_by other kind None true rest none e = absurd (none e)
+other_by other kind None false rest none e = (same_kind e, refl)
+
+other_kind : (before : List Entry) (hold : ℕ) (h : Held) (other : HoldKind) (rest : Reply) → slice_get (held before) hold ≡ Some h → (reply.OtherKind other ≡ rest → ⊥)
+    → reply.OtherKind other ≡ reply_or (page_refusal h.state) rest → IsOtherKind h.spec other
+other_kind before hold h other rest there none e =
+    let is = other_by other h.state.terms.kind h.state.ended (is_stream h.state.terms.kind) rest none e in
+    let sound = all_at (IsSound (published_items before)) (held before) hold h (are_sound before) there in
+    record { own = is.0 ∙ ap (λ (t : Terms). t.kind) sound.terms_are; other = ap is_stream is.0 ∙ is.1 }
+
+spec_of : (p q : HubView) (before : List Entry) (hold : ℕ) (r : Reply) (answer : Held → Reply) (f : Held → Held) (k : Keeps p hold) → (o : OwnCall p q before hold r answer f k.share)
+    → (s : Share) → share_at (held p.seen) hold ≡ Some s → o.h.spec ≡ s.spec
+spec_of p q before hold r answer f k o s is = ap (λ (x : Share). x.spec) (o.is ∙ same_some (sym k.there ∙ is))
+
+-- a page
+
+page_call : (p q : HubView) (hold : ℕ) (page : RecoveryPage) (r : Reply) (k : Keeps p hold) → IsSame p q → (c : HasCalled p q (page_event hold page) r)
+    → OwnCall p q c.before hold r (λ (h : Held). holds.page_reply page.from h.state) (paged_from (window c.before) page) k.share
+page_call p q hold page r k same c = own_call p q hold (page_event hold page) r (λ (h : Held). holds.page_reply page.from h.state) (paged_from (window c.before) page) k same c refl refl
+
+page_by : (from position : List ℕ) (r : Reply) (ended : Option EndCause) (has begins : Bool) (kind : HoldKind) → r ≡ reply_or (refusal ended has kind) (cond begins reply.Paged (reply.Stale from position))
+    → (a : PageReply) × (r ≡ page_reply from a)
+page_by from position r (Some cause) has begins kind e = (answer.Gone cause, e)
+page_by from position r None true true kind e = (answer.Paged, e)
+page_by from position r None true false kind e = (answer.Stale position, e)
+page_by from position r None false begins kind e = (answer.OtherKind kind, e)
+
+pub page_answers : (p q : HubView) (hold : ℕ) (page : RecoveryPage) (r : Reply) → Keeps p hold → IsSame p q → HasCalled p q (page_event hold page) r → (a : PageReply) × (r ≡ page_reply page.from a)
+page_answers p q hold page r k same c =
+    let o = page_call p q hold page r k same c in
+    let s = o.h.state in
+    page_by page.from (id_or s.position []) r s.ended (is_stream s.terms.kind) (begins_at s.position page.from) s.terms.kind o.replied
+
+no_kind : (other : HoldKind) (from position : List ℕ) (begins : Bool) → reply.OtherKind other ≡ cond begins reply.Paged (reply.Stale from position) → ⊥
+no_kind other from position true e = cc
+no_kind other from position false e = cc
+
+pub paged : (p q : HubView) (hold : ℕ) (page : RecoveryPage) (a : PageReply) → Keeps p hold → IsSame p q → HasCalled p q (page_event hold page) (page_reply page.from a) → HasPaged p q hold page a
+unfolding made
+paged p q hold page a k same c =
+    let r = page_reply page.from a in
+    let o = page_call p q hold page r k same c in
+    let f = paged_from (window c.before) page in
+    let answer : Held → Reply = λ h. holds.page_reply page.from h.state in
+    let at = o.h.state.position in
+    let rest = cond (begins_at at page.from) reply.Paged (reply.Stale page.from (id_or at [])) in
+    let share : share_at (held q.seen) hold ≡ share_at (held p.seen) hold = same_share p q c.before hold r answer f k o refl in
+    record {
+      made = made p q (page_event hold page) r same c;
+      stood = o.h;
+      there = o.there;
+      answered = o.replied;
+      left = o.now;
+      kind = λ before kind is e.
+          subst (λ (spec : HoldSpec). IsOtherKind spec kind) (spec_of p q c.before hold r answer f k o before is)
+          (other_kind c.before hold o.h kind rest o.there (no_kind kind page.from (id_or at []) (begins_at at page.from)) (sym (ap (page_reply page.from) e) ∙ o.replied));
+      shares = unmoved p q (page_event hold page) c.before c.seen (λ moves. moves) same c.goes_on;
+      share = share;
+      keeps = keeps_on p q hold k same share;
+    }
+
+-- a page that can't be had
+
+failed_call : (p q : HubView) (hold : ℕ) (r : Reply) (k : Keeps p hold) → IsSame p q → (c : HasCalled p q (PageFailed hold) r) → OwnCall p q c.before hold r (λ (h : Held). failure_reply h.state) failed k.share
+failed_call p q hold r k same c = own_call p q hold (PageFailed hold) r (λ (h : Held). failure_reply h.state) failed k same c refl refl
+
+failed_by : (r : Reply) (ended : Option EndCause) (has : Bool) (kind : HoldKind) → r ≡ reply_or (refusal ended has kind) reply.Done → (a : FailedReply) × (r ≡ failed_reply a)
+failed_by r (Some cause) has kind e = (failure.Gone cause, e)
+failed_by r None true kind e = (failure.Done, e)
+failed_by r None false kind e = (failure.OtherKind kind, e)
+
+pub failed_answers : (p q : HubView) (hold : ℕ) (r : Reply) → Keeps p hold → IsSame p q → HasCalled p q (PageFailed hold) r → (a : FailedReply) × (r ≡ failed_reply a)
+failed_answers p q hold r k same c =
+    let o = failed_call p q hold r k same c in
+    let s = o.h.state in
+    failed_by r s.ended (is_stream s.terms.kind) s.terms.kind o.replied
+
+pub page_failed : (p q : HubView) (hold : ℕ) (a : FailedReply) → Keeps p hold → IsSame p q → HasCalled p q (PageFailed hold) (failed_reply a) → HasFailed p q hold a
+unfolding made
+page_failed p q hold a k same c =
+    let r = failed_reply a in
+    let o = failed_call p q hold r k same c in
+    let answer : Held → Reply = λ h. failure_reply h.state in
+    let share : share_at (held q.seen) hold ≡ share_at (held p.seen) hold = same_share p q c.before hold r answer failed k o refl in
+    record {
+      made = made p q (PageFailed hold) r same c;
+      stood = o.h;
+      there = o.there;
+      answered = o.replied;
+      left = o.now;
+      kind = λ before kind is e.
+          subst (λ (spec : HoldSpec). IsOtherKind spec kind) (spec_of p q c.before hold r answer failed k o before is)
+          (other_kind c.before hold o.h kind reply.Done o.there (λ (n : reply.OtherKind kind ≡ reply.Done). cc) (sym (ap failed_reply e) ∙ o.replied));
+      shares = unmoved p q (PageFailed hold) c.before c.seen (λ moves. moves) same c.goes_on;
+      share = share;
+      keeps = keeps_on p q hold k same share;
+    }
+
 -- a Detach
 
 pub detached : (p q : HubView) (hold : ℕ) (r : Reply) → Keeps p hold → IsSame p q → HasCalled p q (Detach hold) r → HasDetached p q hold
 detached p q hold r k same c =
-    let o = own_call p q hold (Detach hold) r (λ (h : Held). reply.Done) let_go k same c (λ past. refl) (λ past. refl) in
+    let o = own_call p q hold (Detach hold) r (λ (h : Held). reply.Done) let_go k same c refl refl in
     let share : share_at (held q.seen) hold ≡ Some (share_gone k.share) = ap (option_map share_of) o.now ∙ ap (λ (s : Share). Some (share_gone s)) o.is in
     record {
       made = made p q (Detach hold) reply.Done same (subst (HasCalled p q (Detach hold)) o.replied c);

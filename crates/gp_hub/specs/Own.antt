@@ -1,7 +1,9 @@
 -- A pass and the holds of its own.
-use Rattle.std.specs.Prelude.{ℕ, ◌≡◌, ◌≤◌, ◌==◌, true, false, List, [], ◌∷◌, ◌++◌, filter, map, cond, Option, Some, None, is_some, option_to_list}
+use Rattle.std.specs.Prelude.{ℕ, ◌≡◌, ◌≤◌, ◌==◌, true, false, List, [], ◌∷◌, ◌++◌, filter, map, cond, slice_get, Option, Some, None, is_some, option_to_list}
 use mathlib.Core.List.{IsPrefix}
-use Rattle.gp_plain.specs.History.{held}
+use Rattle.gp_plain.specs.Holds as holds
+use Rattle.gp_plain.specs.Holds.{Held, RecoveryPage, terms_of, is_stream, paged_from, failed}
+use Rattle.gp_plain.specs.History.{held, window}
 use Rattle.gp_plain.specs.Pieces.{id_or}
 use Rattle.gp_plain.specs.Kinds.{TakenFits}
 use Rattle.gp_plain.specs.Others.{Share, share_at, shares}
@@ -9,11 +11,16 @@ use Rattle.gp_plain.specs.declared.item.Item.{Item}
 use Rattle.gp_plain.specs.declared.event.Entry.{Entry}
 use Rattle.gp_plain.specs.declared.event.Event.{Event}
 use Rattle.gp_plain.specs.declared.event.Event.TheVariants as event
+use Rattle.gp_plain.specs.declared.event.HoldKind.{HoldKind}
 use Rattle.gp_plain.specs.declared.event.HoldSpec.{HoldSpec}
 use Rattle.gp_plain.specs.declared.reply.Reply.{Reply}
 use Rattle.gp_plain.specs.declared.reply.Reply.TheVariants as reply
 use Rattle.gp_plain.specs.declared.reply.Taken.{Taken}
 use Rattle.gp_turn.specs.Passes.{OfOthers, ranges_of}
+use Rattle.gp_hub.specs.declared.own.PageReply.{PageReply}
+use Rattle.gp_hub.specs.declared.own.PageReply.TheVariants.{Paged, Stale, Gone, OtherKind}
+use Rattle.gp_hub.specs.declared.own.FailedReply.{FailedReply}
+use Rattle.gp_hub.specs.declared.own.FailedReply.TheVariants.{Done, Gone as FailedGone, OtherKind as FailedOtherKind}
 use Rattle.gp_hub.specs.Passes.{HubView, entry_of, who_of}
 use Rattle.gp_hub.specs.Calls.{HasCalled}
 
@@ -85,6 +92,51 @@ pub record HasDetached (p q : HubView) (hold : ℕ) : Type 0 where
   pub made : HasMade p q (event.Detach hold) reply.Done
   pub shares : shares p.number q.seen ≡ with_share hold share_gone (shares p.number p.seen)
   pub share : (before : Share) → share_at (held p.seen) hold ≡ Some before → share_at (held q.seen) hold ≡ Some (share_gone before)
+
+-- the kind of a hold that isn't a reliable stream
+pub record IsOtherKind (spec : HoldSpec) (kind : HoldKind) : Type 0 where
+  pub own : kind ≡ (terms_of spec).kind
+  pub other : is_stream kind ≡ false
+
+-- a page begins at an id: it was appended, or that id isn't the hold's position, or the hold had ended or is no reliable stream
+abbrev pub page_reply : List ℕ → PageReply → Reply
+page_reply from Paged = reply.Paged
+page_reply from (Stale position) = reply.Stale from position
+page_reply from (Gone cause) = reply.Gone cause
+page_reply from (OtherKind kind) = reply.OtherKind kind
+
+abbrev pub page_event : ℕ → RecoveryPage → Event
+page_event hold page = event.Page hold page.from page.to page.bytes page.follows
+
+-- a page came to a hold of the pass. The hold as it stood before says the answer, and what the page left of it. What the pass
+-- has of its holds is as before
+pub record HasPaged (p q : HubView) (hold : ℕ) (page : RecoveryPage) (answer : PageReply) : Type 0 where
+  pub made : HasMade p q (page_event hold page) (page_reply page.from answer)
+  pub stood : Held
+  pub there : slice_get (held made.called.before) hold ≡ Some stood
+  pub answered : page_reply page.from answer ≡ holds.page_reply page.from stood.state
+  pub left : slice_get (held q.seen) hold ≡ Some (paged_from (window made.called.before) page stood)
+  pub kind : (before : Share) (kind : HoldKind) → share_at (held p.seen) hold ≡ Some before → answer ≡ OtherKind kind → IsOtherKind before.spec kind
+  pub shares : shares p.number q.seen ≡ shares p.number p.seen
+  pub share : share_at (held q.seen) hold ≡ share_at (held p.seen) hold
+  pub keeps : Keeps q hold
+
+-- a page can't be had: the hold has ended as unrecovered, or it had ended before, or it is no reliable stream
+abbrev pub failed_reply : FailedReply → Reply
+failed_reply Done = reply.Done
+failed_reply (FailedGone cause) = reply.Gone cause
+failed_reply (FailedOtherKind kind) = reply.OtherKind kind
+
+pub record HasFailed (p q : HubView) (hold : ℕ) (answer : FailedReply) : Type 0 where
+  pub made : HasMade p q (event.PageFailed hold) (failed_reply answer)
+  pub stood : Held
+  pub there : slice_get (held made.called.before) hold ≡ Some stood
+  pub answered : failed_reply answer ≡ holds.failure_reply stood.state
+  pub left : slice_get (held q.seen) hold ≡ Some (failed stood)
+  pub kind : (before : Share) (kind : HoldKind) → share_at (held p.seen) hold ≡ Some before → answer ≡ FailedOtherKind kind → IsOtherKind before.spec kind
+  pub shares : shares p.number q.seen ≡ shares p.number p.seen
+  pub share : share_at (held q.seen) hold ≡ share_at (held p.seen) hold
+  pub keeps : Keeps q hold
 
 -- an item was published, and so many logs grew; or it is a repeat
 abbrev pub publish_reply : List ℕ → Option ℕ → Reply

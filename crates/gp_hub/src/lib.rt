@@ -19,7 +19,7 @@ mod session;
 pub use fault::HubFault;
 pub use hub::Hub;
 pub use outcome::{Outcome, SessionEnd, Why};
-pub use own::fresh_law;
+pub use own::{FailedReply, PageReply, fresh_law};
 pub use pass::HubPass;
 pub use served::Served;
 pub use session::{Polled, Session};
