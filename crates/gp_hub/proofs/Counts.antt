@@ -6,7 +6,7 @@ use Rattle.gp_plain.specs.declared.event.Entry.{Entry}
 use Rattle.gp_plain.specs.declared.event.Event.{Event}
 use Rattle.gp_plain.specs.declared.event.Event.TheVariants.{Attach, Publish, Take, Page, PageFailed, Push, Join, Leave, Detach}
 use Rattle.gp_plain.specs.Follow.{last_items, is_repeat}
-use Rattle.gp_plain.specs.Holds.{Held, begun, taken_from, paged_from, failed, let_go}
+use Rattle.gp_plain.specs.Holds.{Held, push, join, leave, begun, taken_from, paged_from, failed, changed_by, let_go}
 use Rattle.gp_plain.specs.History.{Past, page_of, has_place, changed, served_by, with_item, with_hold, after_event, after, nothing, held}
 use Rattle.gp_plain.specs.Standing.{Standing, StandsFor}
 
@@ -30,9 +30,9 @@ one_count past who (Take hold now) = omega (arith, changed_count who hold (taken
 one_count past who (Detach hold) = omega (arith, changed_count who hold let_go past.holds)
 one_count past who (Page hold from to bytes then) = omega (arith, changed_count who hold (paged_from (last_items past.published) (page_of from to bytes then)) past.holds)
 one_count past who (PageFailed hold) = omega (arith, changed_count who hold failed past.holds)
-one_count past who (Push hold message) = omega arith
-one_count past who (Join hold channel) = omega arith
-one_count past who (Leave hold channel) = omega arith
+one_count past who (Push hold message) = omega (arith, changed_count who hold (changed_by (push message)) past.holds)
+one_count past who (Join hold channel) = omega (arith, changed_count who hold (changed_by (join channel)) past.holds)
+one_count past who (Leave hold channel) = omega (arith, changed_count who hold (changed_by (leave channel)) past.holds)
 
 all_count : (entries : List Entry) (past : Past) → length (fold after past entries).holds ≤ length past.holds + length entries
 all_count [] past = omega arith

@@ -26,7 +26,7 @@ use Rattle.gp_plain.proofs.OthersLaw.{differs, others_law_holds, owners_law_hold
 use Rattle.gp_plain.proofs.KindLaws.{kind_law_holds}
 use Rattle.gp_plain.proofs.ShareLaws.{moves_law_holds}
 use Rattle.gp_plain.proofs.Histories.{all_at}
-use Rattle.gp_plain.proofs.Soundness.{IsSound, are_sound}
+use Rattle.gp_plain.proofs.Soundness.{IsSound, are_sound, kind_is}
 use Rattle.gp_turn.proofs.Owners.{others_by_number}
 use Rattle.gp_hub.specs.Passes.{HubView, GoesOnFrom, IsSame, entry_of, who_of}
 use Rattle.gp_hub.specs.Calls.{HasCalled}
@@ -110,17 +110,17 @@ changed_at who f [] hold h there kept own = absurd (no_some there)
 changed_at who f (x ∷ xs) zero h there kept own = ap Some (ap (changed_if who f) (same_some there) ∙ own_changed who f h kept own)
 changed_at who f (x ∷ xs) (suc hold) h there kept own = changed_at who f xs hold h there kept own
 
-record OwnCall (p q : HubView) (before : List Entry) (hold : ℕ) (r : Reply) (answer : Held → Reply) (f : Held → Held) (s : Share) : Type 0 where
-  h : Held
-  is : share_of h ≡ s
-  there : slice_get (held before) hold ≡ Some h
-  own : h.owner ≡ p.number
-  kept : h.released ≡ false
-  holds : held q.seen ≡ changed p.number hold f (held before)
-  replied : r ≡ answer h
-  now : slice_get (held q.seen) hold ≡ Some (f h)
+pub record OwnCall (p q : HubView) (before : List Entry) (hold : ℕ) (r : Reply) (answer : Held → Reply) (f : Held → Held) (s : Share) : Type 0 where
+  pub h : Held
+  pub is : share_of h ≡ s
+  pub there : slice_get (held before) hold ≡ Some h
+  pub own : h.owner ≡ p.number
+  pub kept : h.released ≡ false
+  pub holds : held q.seen ≡ changed p.number hold f (held before)
+  pub replied : r ≡ answer h
+  pub now : slice_get (held q.seen) hold ≡ Some (f h)
 
-own_call : (p q : HubView) (hold : ℕ) (event : Event) (r : Reply) (answer : Held → Reply) (f : Held → Held) (k : Keeps p hold) → IsSame p q → (c : HasCalled p q event r)
+pub own_call : (p q : HubView) (hold : ℕ) (event : Event) (r : Reply) (answer : Held → Reply) (f : Held → Held) (k : Keeps p hold) → IsSame p q → (c : HasCalled p q event r)
     → history.answer (past_of c.before) p.number event ≡ refused_or p.number hold (kept_at (held c.before) hold) answer
     → (after_event (past_of c.before) p.number event).holds ≡ changed p.number hold f (held c.before)
     → OwnCall p q c.before hold r answer f k.share
@@ -235,7 +235,7 @@ took p q hold now t k same c =
 
 -- an event that moves no share of a hold
 
-unmoved : (p q : HubView) (event : Event) (before : List Entry) → q.seen ≡ before ++ entry_of p.number event ∷ [] → (MovesShares event → ⊥) → IsSame p q → GoesOnFrom p before
+pub unmoved : (p q : HubView) (event : Event) (before : List Entry) → q.seen ≡ before ++ entry_of p.number event ∷ [] → (MovesShares event → ⊥) → IsSame p q → GoesOnFrom p before
     → shares p.number q.seen ≡ shares p.number p.seen
 unmoved p q event before seen moves same c =
     let still : Entry → Type 0 = λ (entry : Entry). MovesShares entry.event → ⊥ in
@@ -243,11 +243,11 @@ unmoved p q event before seen moves same c =
     ∙ moves_law_holds before (entry_of p.number event ∷ []) p.number (All-cons still (entry_of p.number event) [] moves (All-nil still))
     ∙ shares_before p q before same c
 
-same_share : (p q : HubView) (before : List Entry) (hold : ℕ) (r : Reply) (answer : Held → Reply) (f : Held → Held) (k : Keeps p hold) → (o : OwnCall p q before hold r answer f k.share) → share_of (f o.h) ≡ share_of o.h
+pub same_share : (p q : HubView) (before : List Entry) (hold : ℕ) (r : Reply) (answer : Held → Reply) (f : Held → Held) (k : Keeps p hold) → (o : OwnCall p q before hold r answer f k.share) → share_of (f o.h) ≡ share_of o.h
     → share_at (held q.seen) hold ≡ share_at (held p.seen) hold
 same_share p q before hold r answer f k o is = ap (option_map share_of) o.now ∙ ap Some (is ∙ o.is) ∙ sym k.there
 
-keeps_on : (p q : HubView) (hold : ℕ) → (k : Keeps p hold) → IsSame p q → share_at (held q.seen) hold ≡ share_at (held p.seen) hold → Keeps q hold
+pub keeps_on : (p q : HubView) (hold : ℕ) → (k : Keeps p hold) → IsSame p q → share_at (held q.seen) hold ≡ share_at (held p.seen) hold → Keeps q hold
 keeps_on p q hold k same share = record { share = k.share; there = share ∙ k.there; own = k.own ∙ sym same.number; kept = k.kept }
 
 -- another kind, by what the hold was attached with
@@ -255,7 +255,7 @@ keeps_on p q hold k same share = record { share = k.share; there = share ∙ k.t
 same_kind : {a b : HoldKind} → reply.OtherKind a ≡ reply.OtherKind b → a ≡ b
 same_kind e = cc
 
-other_by : (other kind : HoldKind) (ended : Option EndCause) (has : Bool) (rest : Reply) → (reply.OtherKind other ≡ rest → ⊥) → reply.OtherKind other ≡ reply_or (refusal ended has kind) rest → (other ≡ kind) × (has ≡ false)
+pub other_by : (other kind : HoldKind) (ended : Option EndCause) (has : Bool) (rest : Reply) → (reply.OtherKind other ≡ rest → ⊥) → reply.OtherKind other ≡ reply_or (refusal ended has kind) rest → (other ≡ kind) × (has ≡ false)
 other_by other kind (Some cause) has rest none e = absurd cc
 other_by other kind None true rest none e = absurd (none e)
 other_by other kind None false rest none e = (same_kind e, refl)
@@ -265,9 +265,9 @@ other_kind : (before : List Entry) (hold : ℕ) (h : Held) (other : HoldKind) (r
 other_kind before hold h other rest there none e =
     let is = other_by other h.state.terms.kind h.state.ended (is_stream h.state.terms.kind) rest none e in
     let sound = all_at (IsSound (published_items before)) (held before) hold h (are_sound before) there in
-    record { own = is.0 ∙ ap (λ (t : Terms). t.kind) sound.terms_are; other = ap is_stream is.0 ∙ is.1 }
+    record { own = is.0 ∙ kind_is h.spec h.state.terms sound.terms_are; other = ap is_stream is.0 ∙ is.1 }
 
-spec_of : (p q : HubView) (before : List Entry) (hold : ℕ) (r : Reply) (answer : Held → Reply) (f : Held → Held) (k : Keeps p hold) → (o : OwnCall p q before hold r answer f k.share)
+pub spec_of : (p q : HubView) (before : List Entry) (hold : ℕ) (r : Reply) (answer : Held → Reply) (f : Held → Held) (k : Keeps p hold) → (o : OwnCall p q before hold r answer f k.share)
     → (s : Share) → share_at (held p.seen) hold ≡ Some s → o.h.spec ≡ s.spec
 spec_of p q before hold r answer f k o s is = ap (λ (x : Share). x.spec) (o.is ∙ same_some (sym k.there ∙ is))
 

@@ -15,6 +15,7 @@ mod own;
 mod pass;
 mod served;
 mod session;
+mod sockets;
 
 pub use fault::HubFault;
 pub use hub::Hub;
@@ -23,6 +24,7 @@ pub use own::{FailedReply, PageReply, fresh_law};
 pub use pass::HubPass;
 pub use served::Served;
 pub use session::{Polled, Session};
+pub use sockets::ChangeReply;
 
 #[cfg(test)]
 mod tests;
