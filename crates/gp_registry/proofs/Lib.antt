@@ -5,4 +5,5 @@ pub mod Standing
 pub mod Taking
 pub mod Finding
 pub mod Serving
+pub mod Paging
 mod Planning

@@ -13,13 +13,13 @@ use Rattle.gp_plain.specs.declared.reply.Reply.{Reply}
 use Rattle.gp_plain.specs.declared.reply.Reply.TheVariants.{Attached, Full, Published, Repeat, Taken, Done, Foreign}
 use Rattle.gp_plain.specs.Pieces.{id_or}
 use Rattle.gp_plain.specs.Follow.{last_items, is_repeat}
-use Rattle.gp_plain.specs.Holds.{State, Held, pending, position, ended, is_live, offered, settled_if, served, grew, taken_of, taken_from, let_go, begun}
-use Rattle.gp_plain.specs.History.{Past, kept_count, has_place, if_kept, kept_at, refused_or, changed_if, changed, served_by, with_item, with_hold, after_event, after, nothing, past_of, held, answer, reply, pending_at, position_at, cause_at}
+use Rattle.gp_plain.specs.Holds.{State, Held, pending, position, ended, is_live, offered, settled_if, served, grew, RecoveryPage, taken_of, taken_from, paged_from, page_reply, failed, failure_reply, let_go, begun}
+use Rattle.gp_plain.specs.History.{Past, kept_count, has_place, if_kept, kept_at, refused_or, changed_if, changed, served_by, with_item, with_hold, after_event, after, nothing, past_of, held, answer, reply, page_of, pending_at, position_at, cause_at}
 use Rattle.gp_plain.specs.Standing.{Kept, Standing, kept_of, kept_from, standing_of, StandsFor}
 use Rattle.gp_plain.proofs.Windows.{last_push_again}
 use Rattle.gp_plain.proofs.Released.{have_ended}
 use Rattle.gp_registry.specs.Keeps.{pushed, served_kept, grew_kept, taken_kept}
-use Rattle.gp_registry.specs.Steps.{found, if_own, replaced, kept_after_take, kept_after_detach, has_place_kept, fresh_kept, attached, published, stepped, refused_or_kept, answered, kept_pending, kept_position, kept_cause}
+use Rattle.gp_registry.specs.Steps.{found, if_own, replaced, kept_after_take, kept_after_page, kept_after_failure, kept_after_detach, has_place_kept, fresh_kept, attached, published, stepped, refused_or_kept, answered, kept_pending, kept_position, kept_cause}
 
 absurd_true : {A : Type 0} → false ≡ true → A
 absurd_true e = cc
@@ -30,6 +30,12 @@ one n h = cond h.released [] (kept_of n h ∷ [])
 
 after_take_is : (now n : ℕ) (h : Held) → h.released ≡ false → one n (taken_from now h) ≡ kept_after_take now (kept_of n h)
 after_take_is now n h r = rw r refl
+
+after_page_is : (window : List Item) (page : RecoveryPage) (n : ℕ) (h : Held) → h.released ≡ false → one n (paged_from window page h) ≡ kept_after_page window page (kept_of n h)
+after_page_is window page n h r = rw r refl
+
+after_failure_is : (n : ℕ) (h : Held) → h.released ≡ false → one n (failed h) ≡ kept_after_failure (kept_of n h)
+after_failure_is n h r = rw r refl
 
 after_detach_is : (n : ℕ) (h : Held) → h.released ≡ false → one n (let_go h) ≡ kept_after_detach (kept_of n h)
 after_detach_is n h r = refl
@@ -215,8 +221,11 @@ stepped_is past who (Attach spec) =
 stepped_is past who (Publish item) = published_by past item (is_repeat (last_items past.published) item)
 stepped_is past who (Take hold now) = cc (changed_length who hold (taken_from now) past.holds, changed_is who hold (taken_from now) (kept_after_take now) past.holds (after_take_is now))
 stepped_is past who (Detach hold) = cc (changed_length who hold let_go past.holds, changed_is who hold let_go kept_after_detach past.holds after_detach_is)
-stepped_is past who (Page hold from to bytes then) = refl
-stepped_is past who (PageFailed hold) = refl
+stepped_is past who (Page hold from to bytes then) =
+    let window = last_items past.published in
+    let page = page_of from to bytes then in
+    cc (changed_length who hold (paged_from window page) past.holds, changed_is who hold (paged_from window page) (kept_after_page window page) past.holds (after_page_is window page))
+stepped_is past who (PageFailed hold) = cc (changed_length who hold failed past.holds, changed_is who hold failed kept_after_failure past.holds after_failure_is)
 stepped_is past who (Push hold message) = refl
 stepped_is past who (Join hold channel) = refl
 stepped_is past who (Leave hold channel) = refl
@@ -245,8 +254,8 @@ answered_is past who (Publish item) all =
     ∙ ap (λ ws. count_by (λ (k : Kept). grew_kept k (served_kept item before ws k)) (kept_from 0 past.holds)) w)
 answered_is past who (Take hold now) all = refused_is who hold past.holds (λ (h : Held). Taken (taken_of now h.state)) (λ (k : Kept). Taken (taken_kept now k)) (λ k r. refl)
 answered_is past who (Detach hold) all = refused_is who hold past.holds (λ (h : Held). Done) (λ (k : Kept). Done) (λ k r. refl)
-answered_is past who (Page hold from to bytes then) all = refl
-answered_is past who (PageFailed hold) all = refl
+answered_is past who (Page hold from to bytes then) all = refused_is who hold past.holds (λ (h : Held). page_reply from h.state) (λ (k : Kept). page_reply from k.state) (λ k r. refl)
+answered_is past who (PageFailed hold) all = refused_is who hold past.holds (λ (h : Held). failure_reply h.state) (λ (k : Kept). failure_reply k.state) (λ k r. refl)
 answered_is past who (Push hold message) all = refl
 answered_is past who (Join hold channel) all = refl
 answered_is past who (Leave hold channel) all = refl

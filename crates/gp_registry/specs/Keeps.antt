@@ -3,7 +3,7 @@ use Rattle.std.specs.Prelude.{ℕ, Bool, cond, List, [], ◌∷◌, ◌++◌}
 use Rattle.gp_plain.specs.declared.item.Item.{Item}
 use Rattle.gp_plain.specs.declared.reply.Taken.{Taken}
 use Rattle.gp_plain.specs.Follow.{last_items}
-use Rattle.gp_plain.specs.Holds.{State, is_live, offered, grew, served, taken_of, after_take}
+use Rattle.gp_plain.specs.Holds.{State, RecoveryPage, is_live, offered, grew, served, taken_of, after_take, after_page, after_failure}
 use Rattle.gp_plain.specs.Standing.{Kept}
 
 -- the window with one more item
@@ -21,6 +21,12 @@ taken_kept now k = taken_of now k.state
 
 abbrev pub after_take_kept : ℕ → Kept → Kept
 after_take_kept now k = record k { state = after_take now k.state }
+
+abbrev pub after_page_kept : List Item → RecoveryPage → Kept → Kept
+after_page_kept window page k = record k { state = after_page window page k.state }
+
+abbrev pub after_failure_kept : Kept → Kept
+after_failure_kept k = record k { state = after_failure k.state }
 
 -- what an item does to a live hold, before its marks are settled
 abbrev pub offered_if : Item → List Item → State → State

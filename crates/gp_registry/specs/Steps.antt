@@ -10,9 +10,10 @@ use Rattle.gp_plain.specs.declared.item.Item.{Item}
 use Rattle.gp_plain.specs.declared.event.HoldSpec.{HoldSpec}
 use Rattle.gp_plain.specs.Pieces.{id_or}
 use Rattle.gp_plain.specs.Follow.{is_repeat}
-use Rattle.gp_plain.specs.Holds.{begun_state}
+use Rattle.gp_plain.specs.Holds.{RecoveryPage, begun_state, page_reply, failure_reply}
+use Rattle.gp_plain.specs.History.{page_of}
 use Rattle.gp_plain.specs.Standing.{Kept, Standing}
-use Rattle.gp_registry.specs.Keeps.{pushed, served_kept, grew_kept, taken_kept, after_take_kept}
+use Rattle.gp_registry.specs.Keeps.{pushed, served_kept, grew_kept, taken_kept, after_take_kept, after_page_kept, after_failure_kept}
 
 -- the kept hold of a number
 abbrev pub found : ℕ → List Kept → Option Kept
@@ -39,6 +40,12 @@ kept_after_take now k = cond (is_some (taken_kept now k).ended) [] (after_take_k
 abbrev pub kept_after_detach : Kept → List Kept
 kept_after_detach k = []
 
+abbrev pub kept_after_page : List Item → RecoveryPage → Kept → List Kept
+kept_after_page window page k = after_page_kept window page k ∷ []
+
+abbrev pub kept_after_failure : Kept → List Kept
+kept_after_failure k = after_failure_kept k ∷ []
+
 abbrev pub has_place_kept : List Kept → Bool
 has_place_kept kept = nat_lt (length kept) 4096
 
@@ -58,8 +65,8 @@ stepped s who (Attach spec) = cond (has_place_kept s.kept) (attached s (fresh_ke
 stepped s who (Publish item) = cond (is_repeat s.window item) s (published s item)
 stepped s who (Take hold now) = record s { kept = replaced who hold (kept_after_take now) s.kept }
 stepped s who (Detach hold) = record s { kept = replaced who hold kept_after_detach s.kept }
-stepped s who (Page hold from to bytes then) = s
-stepped s who (PageFailed hold) = s
+stepped s who (Page hold from to bytes then) = record s { kept = replaced who hold (kept_after_page s.window (page_of from to bytes then)) s.kept }
+stepped s who (PageFailed hold) = record s { kept = replaced who hold kept_after_failure s.kept }
 stepped s who (Push hold message) = s
 stepped s who (Join hold channel) = s
 stepped s who (Leave hold channel) = s
@@ -75,8 +82,8 @@ answered s who (Publish item) =
     cond (is_repeat s.window item) (Repeat (id_or item.id [])) (Published (count_by (λ (k : Kept). grew_kept k (served_kept item s.window (pushed s.window item) k)) s.kept))
 answered s who (Take hold now) = refused_or_kept who hold (found hold s.kept) (λ (k : Kept). Taken (taken_kept now k))
 answered s who (Detach hold) = refused_or_kept who hold (found hold s.kept) (λ (k : Kept). Done)
-answered s who (Page hold from to bytes then) = Done
-answered s who (PageFailed hold) = Done
+answered s who (Page hold from to bytes then) = refused_or_kept who hold (found hold s.kept) (λ (k : Kept). page_reply from k.state)
+answered s who (PageFailed hold) = refused_or_kept who hold (found hold s.kept) (λ (k : Kept). failure_reply k.state)
 answered s who (Push hold message) = Done
 answered s who (Join hold channel) = Done
 answered s who (Leave hold channel) = Done

@@ -1,9 +1,11 @@
-ghost use Rattle.std.specs.Prelude.{◌≡◌, ◌≤◌, ℕ, IfOk, OnOk, OnErr, All, count_by, length, map};
-ghost use Rattle.gp_registry.specs.Keeps.{after_take_kept, taken_kept};
+ghost use Rattle.std.specs.Prelude.{◌≡◌, ◌≤◌, ℕ, None, IfOk, OnOk, OnErr, All, count_by, length, map};
+ghost use Rattle.gp_plain.specs.History.{page_of};
+ghost use Rattle.gp_plain.specs.Holds.{failure_reply, page_refusal, page_reply};
+ghost use Rattle.gp_registry.specs.Keeps.{after_failure_kept, after_page_kept, after_take_kept, taken_kept};
 ghost use Rattle.gp_registry.specs.Stages.{HasRoom, IsStaged, appends, committed, kept_hold, number_of};
 
 use crate::machine::HoldMachine;
-use gp_plain::{Item, Taken};
+use gp_plain::{Body, Item, ItemId, Reply, Taken, Then};
 use gp_window::Window;
 use std::alloc::AllocError;
 
@@ -50,6 +52,32 @@ impl Hold {
         ensures err { OnErr result (kept_hold self.new ≡ kept_hold self.old) }
     {
         self.machine.take(now)
+    }
+
+    /// Brings it a page of a recovery, and answers it. An error changes nothing, and comes only where the page isn't
+    /// refused.
+    pub fn page(
+        &mut self,
+        from: &ItemId,
+        to: &ItemId,
+        bytes: &Body,
+        then: Then,
+        window: &Window,
+    ) -> Result<Reply, AllocError>
+        ensures reply { IfOk result (λ reply. reply ≡ page_reply from.now (kept_hold self.old).state) }
+        ensures leaves { OnOk result (kept_hold self.new ≡ after_page_kept window.now.items (page_of from.now to.now bytes.now then) (kept_hold self.old)) }
+        ensures err { OnErr result (kept_hold self.new ≡ kept_hold self.old) }
+        ensures due { OnErr result (page_refusal (kept_hold self.old).state ≡ None) }
+    {
+        self.machine.page(from, to, bytes, then, window)
+    }
+
+    /// Tells it that a page of its recovery can't be had, and answers that. It takes no memory.
+    pub fn fail(&mut self) -> Reply
+        ensures reply { result ≡ failure_reply (kept_hold self.old).state }
+        ensures leaves { kept_hold self.new ≡ after_failure_kept (kept_hold self.old) }
+    {
+        self.machine.fail()
     }
 }
 

@@ -9,6 +9,7 @@
 mod hold;
 mod machine;
 mod order;
+mod poll;
 mod registry;
 
 pub use registry::Registry;

@@ -1,13 +1,15 @@
-ghost use Rattle.std.specs.Prelude.{◌≡◌, List, None, IfOk, OnOk, OnErr, option_map, true};
+ghost use Rattle.std.specs.Prelude.{◌≡◌, List, None, Some, IfOk, OnOk, OnErr, option_map, true, false};
 ghost use Rattle.gp_plain.specs.Fit.{fits_spec, is_built_spec};
-ghost use Rattle.gp_plain.specs.Holds.{after_take, begun_state, settled_if, taken_of};
+ghost use Rattle.gp_plain.specs.History.{page_of};
+ghost use Rattle.gp_plain.specs.Holds.{after_failure, after_page, after_take, begun_state, failure_reply, is_stream, page_refusal, page_reply, refusal, settled_if, taken_of};
 ghost use Rattle.gp_plain.specs.Plans.{IsPlanReady, grows, with_plan};
 ghost use Rattle.gp_plain.specs.declared.item.Item.{Item};
 ghost use Rattle.gp_registry.specs.Stages.{IsPlainStaged, IsReadyHold, IsStagedBy, IsStreamStaged, appends, staged, state_of};
 
-use gp_hold_response::{ResponseHold, ResponsePlan};
+use crate::poll::LongPoll;
+use gp_hold_response::ResponsePlan;
 use gp_hold_stream::{PlainHold, PlainPlan, StreamHold, StreamPlan};
-use gp_plain::{EndCause, HoldSpec, Item, ItemId, Pieces, Taken};
+use gp_plain::{Body, EndCause, HoldKind, HoldSpec, Item, ItemId, Pieces, Reply, Taken, Then};
 use gp_window::Window;
 use std::alloc::{AllocError, Global};
 
@@ -26,7 +28,7 @@ pub enum HoldMachine {
     },
     /// A response hold, and what an item is to do to it.
     Response {
-        hold: ResponseHold,
+        hold: LongPoll,
         plan: Option<ResponsePlan>,
     },
 }
@@ -57,7 +59,7 @@ pub fn begun(alloc: Global, spec: &HoldSpec, window: &Window) -> Result<HoldMach
             deadline,
             again,
         } => Ok(HoldMachine::Response {
-            hold: ResponseHold::begin(alloc, channels, prev.as_ref(), *deadline, *again, window)?,
+            hold: LongPoll::begin(alloc, channels, prev.as_ref(), *deadline, *again, window)?,
             plan: None,
         }),
         HoldSpec::Socket => unreachable!(),
@@ -106,7 +108,7 @@ fn stage_plain(
 }
 
 fn stage_response(
-    hold: &ResponseHold,
+    hold: &LongPoll,
     plan: &mut Option<ResponsePlan>,
     item: &Item,
     window: &Window,
@@ -134,17 +136,63 @@ fn commit_stream(hold: &mut StreamHold, plan: StreamPlan, window: &Window) -> bo
     grew
 }
 
-/// Carries out a plan, and settles the mark of a hold that went on.
-fn commit_response(hold: &mut ResponseHold, plan: ResponsePlan, window: &Window) -> bool
-    requires { IsPlanReady hold.old plan }
-    ensures state { hold.new.state ≡ settled_if (grows plan) window.now.items (with_plan hold.old.state plan) }
-    ensures grew { result ≡ grows plan }
+/// Why a page is refused by a hold of this end and this kind: it ended, or it is no reliable stream.
+fn page_refusal(cause: Option<EndCause>, kind: HoldKind) -> Option<Reply>
+    ensures { result ≡ refusal cause (is_stream kind) kind }
 {
-    let went_on = hold.commit(plan);
-    if went_on {
-        hold.settle(window);
+    match (cause, kind) {
+        (Some(cause), _) => Some(Reply::Gone(cause)),
+        (None, HoldKind::Stream) => None,
+        (None, kind) => Some(Reply::OtherKind(kind)),
     }
-    went_on
+}
+
+/// How a hold that is no reliable stream refuses a page.
+fn refused(cause: Option<EndCause>, kind: HoldKind) -> Reply
+    requires { is_stream kind ≡ false }
+    ensures { refusal cause (is_stream kind) kind ≡ Some result }
+{
+    match page_refusal(cause, kind) {
+        Some(reply) => reply,
+        None => unreachable!(),
+    }
+}
+
+/// Brings a reliable stream a page, where it is live. An error changes nothing.
+fn page_stream(
+    hold: &mut StreamHold,
+    from: &ItemId,
+    to: &ItemId,
+    bytes: &Body,
+    then: Then,
+    window: &Window,
+) -> Result<Reply, AllocError>
+    ensures reply { IfOk result (λ reply. reply ≡ page_reply from.now hold.old.state) }
+    ensures state { OnOk result (hold.new.state ≡ after_page window.now.items (page_of from.now to.now bytes.now then) hold.old.state) }
+    ensures err { OnErr result (hold.new.state ≡ hold.old.state) }
+    ensures due { OnErr result (page_refusal hold.old.state ≡ None) }
+{
+    match page_refusal(hold.cause(), hold.kind()) {
+        Some(refused) => Ok(refused),
+        None => {
+            let plan = hold.page_plan(from, to, bytes, then, window)?;
+            Ok(hold.commit_page(plan))
+        }
+    }
+}
+
+/// Ends a reliable stream whose page can't be had, where it is live.
+fn fail_stream(hold: &mut StreamHold) -> Reply
+    ensures reply { result ≡ failure_reply hold.old.state }
+    ensures state { hold.new.state ≡ after_failure hold.old.state }
+{
+    match page_refusal(hold.cause(), hold.kind()) {
+        Some(refused) => refused,
+        None => {
+            hold.fail();
+            Reply::Done
+        }
+    }
 }
 
 /// Takes a plan out where there is one, so that nothing is moved where there is none.
@@ -187,7 +235,7 @@ impl HoldMachine {
                 None => false,
             },
             HoldMachine::Response { hold, plan } => match taken(plan) {
-                Some(plan) => commit_response(hold, plan, window),
+                Some(plan) => hold.commit(plan, window),
                 None => false,
             },
         }
@@ -203,6 +251,40 @@ impl HoldMachine {
             HoldMachine::Stream { hold, .. } => hold.take(),
             HoldMachine::Plain { hold, .. } => hold.take(),
             HoldMachine::Response { hold, .. } => hold.take(now),
+        }
+    }
+
+    /// Brings it a page of a recovery, and answers it. An error changes nothing, and comes only where the page isn't
+    /// refused.
+    pub fn page(
+        &mut self,
+        from: &ItemId,
+        to: &ItemId,
+        bytes: &Body,
+        then: Then,
+        window: &Window,
+    ) -> Result<Reply, AllocError>
+        ensures reply { IfOk result (λ reply. reply ≡ page_reply from.now (state_of self.old)) }
+        ensures state { OnOk result (state_of self.new ≡ after_page window.now.items (page_of from.now to.now bytes.now then) (state_of self.old)) }
+        ensures err { OnErr result (state_of self.new ≡ state_of self.old) }
+        ensures due { OnErr result (page_refusal (state_of self.old) ≡ None) }
+    {
+        match self {
+            HoldMachine::Stream { hold, .. } => page_stream(hold, from, to, bytes, then, window),
+            HoldMachine::Plain { hold, .. } => Ok(refused(hold.cause(), hold.kind())),
+            HoldMachine::Response { hold, .. } => Ok(refused(hold.cause(), hold.kind())),
+        }
+    }
+
+    /// Tells it that a page of its recovery can't be had, and answers that. It takes no memory.
+    pub fn fail(&mut self) -> Reply
+        ensures reply { result ≡ failure_reply (state_of self.old) }
+        ensures state { state_of self.new ≡ after_failure (state_of self.old) }
+    {
+        match self {
+            HoldMachine::Stream { hold, .. } => fail_stream(hold),
+            HoldMachine::Plain { hold, .. } => refused(hold.cause(), hold.kind()),
+            HoldMachine::Response { hold, .. } => refused(hold.cause(), hold.kind()),
         }
     }
 

@@ -1,13 +1,17 @@
 //! The holds in the order of their numbers.
-ghost use Rattle.std.specs.Prelude.{◌≡◌, ◌<◌, ℕ, IfOk, OnOk, OnErr, length, map, slice_index, slice_index_or, MatchOption};
+ghost use Rattle.std.specs.Prelude.{◌≡◌, ◌<◌, ℕ, IfOk, OnOk, OnErr, length, map, slice_index, slice_index_or, MatchOption, false};
+ghost use Rattle.gp_plain.specs.History.{page_of};
+ghost use Rattle.gp_plain.specs.Holds.{failure_reply, page_reply};
+ghost use Rattle.gp_plain.specs.Refusals.{refuses};
 ghost use Rattle.gp_registry.specs.Keeps.{taken_kept};
 ghost use Rattle.gp_registry.specs.Places.{HasNone, IsPlaceOf};
 ghost use Rattle.gp_registry.specs.Stages.{IsInOrder, Rises, kept_hold, number_of};
-ghost use Rattle.gp_registry.specs.Steps.{instead, kept_after_detach, kept_after_take};
+ghost use Rattle.gp_registry.specs.Steps.{instead, kept_after_detach, kept_after_failure, kept_after_page, kept_after_take};
 ghost use Rattle.gp_registry.specs.declared.hold.Hold.{Hold};
 
 use crate::hold::Hold;
-use gp_plain::Taken;
+use gp_plain::{Body, ItemId, Reply, Taken, Then};
+use gp_window::Window;
 use std::alloc::AllocError;
 
 /// The place of the hold of a number, by a binary search.
@@ -46,4 +50,37 @@ pub fn take_at(holds: &mut Vec<Hold>, place: usize, now: u64) -> Result<Taken, A
         release_at(holds, place);
     }
     Ok(taken)
+}
+
+/// Brings the hold at a place a page of a recovery, and answers it. An error changes nothing, and comes only where the page
+/// isn't refused.
+pub fn page_at(
+    holds: &mut Vec<Hold>,
+    place: usize,
+    from: &ItemId,
+    to: &ItemId,
+    bytes: &Body,
+    then: Then,
+    window: &Window,
+) -> Result<Reply, AllocError>
+    requires { place < length holds.old.items }
+    ensures gives { (d : Hold) → IfOk result (λ reply. reply ≡ page_reply from.now (kept_hold (slice_index_or holds.old.items place d)).state) }
+    ensures kept { OnOk result (map kept_hold holds.new.items ≡ instead place (kept_after_page window.now.items (page_of from.now to.now bytes.now then)) (map kept_hold holds.old.items)) }
+    ensures order { (next : ℕ) → IsInOrder next holds.old.items → IsInOrder next holds.new.items }
+    ensures err { OnErr result (map kept_hold holds.new.items ≡ map kept_hold holds.old.items) }
+    ensures due { (d : Hold) → OnErr result (refuses (page_reply from.now (kept_hold (slice_index_or holds.old.items place d)).state) ≡ false) }
+{
+    let own = &mut holds[place];
+    own.page(from, to, bytes, then, window)
+}
+
+/// Tells the hold at a place that a page of its recovery can't be had, and answers that. It takes no memory.
+pub fn fail_at(holds: &mut Vec<Hold>, place: usize) -> Reply
+    requires { place < length holds.old.items }
+    ensures gives { (d : Hold) → result ≡ failure_reply (kept_hold (slice_index_or holds.old.items place d)).state }
+    ensures kept { map kept_hold holds.new.items ≡ instead place kept_after_failure (map kept_hold holds.old.items) }
+    ensures order { (next : ℕ) → IsInOrder next holds.old.items → IsInOrder next holds.new.items }
+{
+    let own = &mut holds[place];
+    own.fail()
 }

@@ -14,8 +14,8 @@ ghost use Rattle.gp_registry.specs.Steps.{answered, found, kept_pending, kept_po
 
 use crate::hold::{Hold, commit_all, stage_all};
 use crate::machine::{HoldMachine, begun};
-use crate::order::{place_of, release_at, take_at};
-use gp_plain::{EndCause, Event, HoldSpec, Item, ItemId, Pieces, Reply};
+use crate::order::{fail_at, page_at, place_of, release_at, take_at};
+use gp_plain::{Body, EndCause, Event, HoldSpec, Item, ItemId, Pieces, Reply, Then};
 use gp_window::Window;
 use std::alloc::{AllocError, Global};
 use std::marker::Model;
@@ -174,6 +174,42 @@ impl Registry {
         Ok(Reply::Taken(taken))
     }
 
+    fn page(
+        &mut self,
+        who: u64,
+        hold: u64,
+        from: &ItemId,
+        to: &ItemId,
+        bytes: &Body,
+        then: Then,
+    ) -> Result<Reply, AllocError>
+        ensures ok { IfOk result (λ r. (r ≡ answered self.old who (Event.Page hold from.now to.now bytes.now then)) × (self.new ≡ stepped self.old who (Event.Page hold from.now to.now bytes.now then))) }
+        ensures err { OnErr result (self.new ≡ self.old) }
+        ensures due { OnErr result (refuses (answered self.old who (Event.Page hold from.now to.now bytes.now then)) ≡ false) }
+    {
+        let Some(place) = place_of(self.holds.as_slice(), hold) else {
+            return Ok(Reply::Unknown(hold));
+        };
+        let owner = self.holds[place].owner;
+        if owner != who {
+            return Ok(Reply::Foreign(owner));
+        }
+        page_at(&mut self.holds, place, from, to, bytes, then, &self.window)
+    }
+
+    fn page_failed(&mut self, who: u64, hold: u64) -> Reply
+        ensures { (result ≡ answered self.old who (Event.PageFailed hold)) × (self.new ≡ stepped self.old who (Event.PageFailed hold)) }
+    {
+        let Some(place) = place_of(self.holds.as_slice(), hold) else {
+            return Reply::Unknown(hold);
+        };
+        let owner = self.holds[place].owner;
+        if owner != who {
+            return Reply::Foreign(owner);
+        }
+        fail_at(&mut self.holds, place)
+    }
+
     fn detach(&mut self, who: u64, hold: u64) -> Reply
         ensures { (result ≡ answered self.old who (Event.Detach hold)) × (self.new ≡ stepped self.old who (Event.Detach hold)) }
     {
@@ -209,6 +245,26 @@ impl Registry {
                 Ok(reply) => Ok(reply),
                 Err(refused) => Err((Event::Take { hold, now }, refused)),
             },
+            Event::Page {
+                hold,
+                from,
+                to,
+                bytes,
+                then,
+            } => match self.page(who, hold, &from, &to, &bytes, then) {
+                Ok(reply) => Ok(reply),
+                Err(refused) => {
+                    let event = Event::Page {
+                        hold,
+                        from,
+                        to,
+                        bytes,
+                        then,
+                    };
+                    Err((event, refused))
+                }
+            },
+            Event::PageFailed { hold } => Ok(self.page_failed(who, hold)),
             Event::Detach { hold } => Ok(self.detach(who, hold)),
             _ => unreachable!(),
         }
@@ -217,7 +273,8 @@ impl Registry {
     /// Does what the event asks, and answers it. `who` is the number of the one who asks.
     ///
     /// An error comes from want of memory alone, and never where the event is to be refused: it changes nothing, and
-    /// hands the event back. A refusal takes no memory, and neither does a Detach, which is always answered.
+    /// hands the event back. A refusal takes no memory, and neither does a PageFailed or a Detach, which is
+    /// always answered.
     pub fn step(&mut self, who: u64, event: Event) -> Result<Reply, (Event, AllocError)>
         requires fits { fits event ≡ true }
         requires room { self.old.next < 2 ^ 62 }
