@@ -4,11 +4,12 @@ ghost use Rattle.gp_plain.specs.Follow.{is_heard};
 ghost use Rattle.gp_plain.specs.Holds.{after_take, begun_state, offered, settled_if, taken_of};
 ghost use Rattle.gp_plain.specs.Growth.{grown};
 ghost use Rattle.gp_plain.specs.declared.item.Item.{Item};
+ghost use Rattle.gp_plain.specs.declared.event.HoldKind.TheVariants.{Plain as PlainKind};
 ghost use Rattle.gp_hold_stream.specs.States.{plain_spec};
 ghost use Rattle.gp_hold_stream.specs.Plain.{IsPlainPlanned, IsPlainReady};
 
 use gp_plain::{
-    Body, EndCause, Item, ItemId, Names, Pending, Piece, Pieces, Run, Taken, copy_names,
+    Body, EndCause, HoldKind, Item, ItemId, Names, Pending, Piece, Pieces, Run, Taken, copy_names,
 };
 use std::alloc::{AllocError, Global};
 use std::marker::Model;
@@ -108,6 +109,15 @@ impl PlainHold {
             recover: None,
             ended,
         })
+    }
+
+    /// Its kind: a stream without a position.
+    pub fn kind(&self) -> HoldKind
+        ensures of { result ≡ self.now.state.terms.kind }
+        ensures is { result ≡ PlainKind }
+    {
+        let _ = &self.ended;
+        HoldKind::Plain
     }
 
     /// Why it ended, and none while it is live.

@@ -1,15 +1,21 @@
-ghost use Rattle.std.specs.Prelude.{◌≡◌, ◌==◌, ◌&&◌, ℕ, None, IfOk, OnOk, OnErr, cond, is_none, length, option_map, true};
+ghost use Rattle.std.specs.Prelude.{◌≡◌, ◌==◌, ◌&&◌, ◌||◌, ℕ, None, IfOk, OnOk, OnErr, cond, is_none, length, option_map, true};
 ghost use Rattle.gp_plain.specs.Fit.{is_short_page};
 ghost use Rattle.gp_plain.specs.Follow.{is_heard};
-ghost use Rattle.gp_plain.specs.Growth.{grown};
-ghost use Rattle.gp_plain.specs.Holds.{after_take, begun_state, gapped, offered, settled, taken_of};
+ghost use Rattle.gp_plain.specs.Growth.{IsWithin, grown, no_growth, with_pieces};
+ghost use Rattle.gp_plain.specs.History.{page_of};
+ghost use Rattle.gp_plain.specs.Holds.{after_failure, after_take, begins_at, begun_state, closed_behind, gapped, is_end, is_next, offered, page_run, settled, taken_of};
+ghost use Rattle.gp_plain.specs.Pieces.{id_or};
 ghost use Rattle.gp_plain.specs.Tails.{ahead};
 ghost use Rattle.gp_plain.specs.Plans.{IsPlanned, IsPlanReady, grows, with_plan};
 ghost use Rattle.gp_plain.specs.declared.plan.Plan.TheVariants.{Grow};
+ghost use Rattle.gp_plain.specs.declared.event.HoldKind.TheVariants.{Stream};
+ghost use Rattle.gp_plain.specs.declared.reply.Piece.TheVariants.{Page as PagePiece};
+ghost use Rattle.gp_hold_stream.specs.Pages.{IsPagePlanned, IsPageReady, page_answer, with_marks, with_page_plan};
 ghost use Rattle.gp_hold_stream.specs.States.{stream_spec};
 
 use gp_plain::{
-    Body, EndCause, HoldKind, Item, ItemId, Name, Pending, Piece, Pieces, Plan, Run, Tail, Taken,
+    Body, EndCause, HoldKind, Item, ItemId, Name, Pending, Piece, Pieces, Plan, Reply, Run, Tail,
+    Taken, Then,
 };
 use std::alloc::{AllocError, Global};
 use std::marker::Model;
@@ -19,6 +25,28 @@ const MISSES: u32 = 64;
 
 /// What an item is to do to a stream hold.
 pub type StreamPlan = Plan;
+
+/// What a page of a recovery is to do to a stream hold.
+///
+/// It is a type of its own, since a page, other than an item, sets the marks anew, may end the hold behind what it adds,
+/// and is answered otherwise where it is stale.
+#[derive(Drop)]
+pub enum PagePlan {
+    /// The page begins at the position. Its pieces are added, the position moves to the last id that they have, and the
+    /// hold that lives behind them is closed where the page is the last.
+    Page {
+        run: Run,
+        position: Option<ItemId>,
+        last: bool,
+        want: bool,
+    },
+    /// The page begins elsewhere. It adds nothing, and is answered by where it begins and by the position.
+    Stale {
+        from: ItemId,
+        position: ItemId,
+        want: bool,
+    },
+}
 
 /// A stream hold with a position on its channel.
 #[derive(Drop)]
@@ -58,6 +86,56 @@ fn wants<I: Tail>(
     ensures { result ≡ (is_none ended && link && ahead channel.now position.now (I.items window.now)) }
 {
     ended.is_none() && link && window.ahead(channel, position)
+}
+
+/// Whether a hold wants to ask for more behind a page: it has a link, and there is a next page, or it may have missed more
+/// and the window shows that there is more.
+fn wants_behind<I: Tail>(
+    link: bool,
+    next: bool,
+    missed_more: bool,
+    channel: &Name,
+    position: &ItemId,
+    window: &I,
+) -> bool
+    ensures { result ≡ (link && (next || (missed_more && ahead channel.now position.now (I.items window.now)))) }
+{
+    link && (next || (missed_more && window.ahead(channel, position)))
+}
+
+/// Whether the stream ends with the page.
+fn is_last(then: Then) -> bool
+    ensures { result ≡ is_end then }
+{
+    matches!(then, Then::End)
+}
+
+/// Whether there is a next page to ask for.
+fn has_next(then: Then) -> bool
+    ensures { result ≡ is_next then }
+{
+    matches!(then, Then::Next)
+}
+
+/// The piece of a page. It copies the bytes, once.
+fn page_piece(alloc: Global, from: &ItemId, to: &ItemId, bytes: &Body) -> Result<Piece, AllocError>
+    ensures { IfOk result (λ piece. piece ≡ PagePiece from.now to.now bytes.now) }
+{
+    Ok(Piece::Page {
+        from: from.copy(alloc)?,
+        to: to.copy(alloc)?,
+        bytes: bytes.copy(alloc)?,
+    })
+}
+
+/// The position, once it moved to an id, where there is one.
+fn moved_from<'p>(position: &'p Option<ItemId>, from: &'p ItemId) -> &'p ItemId
+    ensures { result.now ≡ id_or position.now from.now }
+{
+    match position {
+        Some(id) => id,
+        None => from,
+    }
 }
 
 /// The items in a row that were missed, once a run is added.
@@ -186,6 +264,129 @@ impl StreamHold {
         }
     }
 
+    /// The pieces of a page that begins at the position: itself, and then, unless the stream ends with it, those of the
+    /// window that follow it.
+    fn page_run<I: Tail>(
+        &self,
+        from: &ItemId,
+        to: &ItemId,
+        bytes: &Body,
+        then: Then,
+        window: &I,
+    ) -> Result<Run, AllocError>
+        ensures { IfOk result (λ run. (run ≡ with_pieces self.now.state.pending no_growth (page_run self.now.state.terms (page_of from.now to.now bytes.now then) (I.items window.now))) × IsWithin self.now.state.pending run.pieces) }
+    {
+        let mut run = Run::behind(&self.pending);
+        run.add(&self.pending, page_piece(self.alloc, from, to, bytes)?)?;
+        if is_last(then) {
+            return Ok(run);
+        }
+        let kind = HoldKind::Stream;
+        run.follow(self.alloc, &self.pending, kind, &self.channel, to, window)?;
+        Ok(run)
+    }
+
+    /// Whether a page begins at the position.
+    fn begins(&self, from: &ItemId) -> bool
+        ensures { result ≡ begins_at self.now.state.position from.now }
+    {
+        from.is(&self.position)
+    }
+
+    /// What a page does, by the window. The hold stays as it is.
+    ///
+    /// A page that begins at the position is added, with the items that follow it, and a page that begins elsewhere is
+    /// stale. Behind either the hold asks for nothing any more, and wants to ask where there is a next page, or where the
+    /// window shows that it missed more. The bytes are copied once.
+    pub fn page_plan<I: Tail>(
+        &self,
+        from: &ItemId,
+        to: &ItemId,
+        bytes: &Body,
+        then: Then,
+        window: &I,
+    ) -> Result<PagePlan, AllocError>
+        requires { self.now.state.ended ≡ None }
+        ensures { IfOk result (IsPagePlanned self.now (I.items window.now) (page_of from.now to.now bytes.now then)) }
+    {
+        let (link, channel, at) = (self.link, &self.channel, &self.position);
+        if !self.begins(from) {
+            return Ok(PagePlan::Stale {
+                from: from.copy(self.alloc)?,
+                position: at.copy(self.alloc)?,
+                want: wants_behind(link, false, true, channel, at, window),
+            });
+        }
+        let mut run = self.page_run(from, to, bytes, then, window)?;
+        run.reserve(&self.pending)?;
+        let position = run.position()?;
+        let behind = moved_from(&position, at);
+        let want = wants_behind(link, has_next(then), self.late, channel, behind, window);
+        let last = is_last(then);
+        Ok(PagePlan::Page {
+            run,
+            position,
+            last,
+            want,
+        })
+    }
+
+    /// Closes a hold that lives behind the last page.
+    fn close_behind(&mut self, last: bool)
+        ensures { self.new.state ≡ closed_behind last self.old.state }
+    {
+        if last && self.ended.is_none() {
+            self.ended = Some(EndCause::Closed);
+        }
+    }
+
+    /// Sets the marks anew: it asks for nothing any more, and nothing came late.
+    fn mark(&mut self, want: bool)
+        ensures { self.new.state ≡ with_marks want self.old.state }
+    {
+        self.want = want;
+        self.asked = false;
+        self.late = false;
+    }
+
+    /// Carries out a plan for a page that was made of this hold in its present state, and answers the page. It takes no
+    /// memory.
+    pub fn commit_page(&mut self, plan: PagePlan) -> Reply
+        requires { IsPageReady self.old plan }
+        ensures state { self.new.state ≡ with_page_plan self.old.state plan }
+        ensures reply { result ≡ page_answer plan }
+    {
+        match plan {
+            PagePlan::Page {
+                run,
+                position,
+                last,
+                want,
+            } => {
+                self.grow(run, position);
+                self.close_behind(last);
+                self.mark(want);
+                Reply::Paged
+            }
+            PagePlan::Stale {
+                from,
+                position,
+                want,
+            } => {
+                self.mark(want);
+                Reply::Stale { from, position }
+            }
+        }
+    }
+
+    /// Ends it `Unrecovered`: a page that it asked for can't be had. It takes no memory.
+    pub fn fail(&mut self)
+        requires { self.old.state.ended ≡ None }
+        ensures { self.new.state ≡ after_failure self.old.state }
+    {
+        self.ended = Some(EndCause::Unrecovered);
+    }
+
     /// Clears the marks of a gap where the window behind the item shows nothing ahead. It takes no memory, and looks at
     /// the window only where there is a mark.
     pub fn settle<I: Tail>(&mut self, window: &I)
@@ -226,6 +427,15 @@ impl StreamHold {
             recover,
             ended,
         })
+    }
+
+    /// Its kind: a reliable stream.
+    pub fn kind(&self) -> HoldKind
+        ensures of { result ≡ self.now.state.terms.kind }
+        ensures is { result ≡ Stream }
+    {
+        let _ = &self.ended;
+        HoldKind::Stream
     }
 
     /// Why it ended, and none while it is live.
