@@ -311,6 +311,15 @@ impl ResponseHold {
         }
     }
 
+    /// Its kind: a long poll.
+    pub fn kind(&self) -> HoldKind
+        ensures of { result ≡ self.now.state.terms.kind }
+        ensures is { result ≡ Response }
+    {
+        let _ = &self.ended;
+        HoldKind::Response
+    }
+
     /// Why it ended, and none while it is live.
     pub fn cause(&self) -> Option<EndCause>
         ensures { result ≡ self.now.state.ended }

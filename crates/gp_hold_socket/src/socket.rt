@@ -1,16 +1,17 @@
-ghost use Rattle.std.specs.Prelude.{◌≡◌, ◌==◌, ◌&&◌, [], ℕ, List, Bool, None, cond, filter, is_none, length, not, option_map, IfOk, IfErr, OnOk, OnErr};
+ghost use Rattle.std.specs.Prelude.{◌≡◌, ◌==◌, ◌&&◌, [], false, ℕ, List, Bool, None, cond, filter, is_none, length, not, option_map, IfOk, IfErr, OnOk, OnErr};
 ghost use Rattle.std.specs.List.{list_any};
 ghost use Rattle.gp_plain.specs.Follow.{is_heard};
 ghost use Rattle.gp_plain.specs.Growth.{IsWithin, grown, no_growth, with_pieces};
 ghost use Rattle.gp_plain.specs.Holds.{after_take, begun_state, is_crowded, join, leave, message_piece, offered, push, settled_if, taken_of, with_change, without};
 ghost use Rattle.gp_plain.specs.Names.{same_id};
 ghost use Rattle.gp_plain.specs.Plans.{IsRunPlanned, IsRunReady};
+ghost use Rattle.gp_plain.specs.declared.event.HoldKind.TheVariants.{Socket as SocketKind};
 ghost use Rattle.gp_plain.specs.declared.item.Item.{Item};
 ghost use Rattle.gp_plain.specs.declared.item.Message.{Message as Sent};
 ghost use Rattle.gp_plain.specs.declared.reply.Piece.TheVariants.{Message as MessagePiece};
 ghost use Rattle.gp_hold_socket.specs.States.{socket_spec};
 
-use gp_plain::{EndCause, Item, ItemId, Message, Name, Names, Pending, Piece, Pieces, Run, Taken};
+use gp_plain::{EndCause, HoldKind, Item, ItemId, Message, Name, Names, Pending, Piece, Pieces, Run, Taken};
 use std::alloc::{AllocError, Global};
 use std::marker::Model;
 use std::mem;
@@ -105,6 +106,7 @@ impl SocketHold {
         ensures joins { IfOk result (λ joins. joins ≡ not (is_crowded channel.now self.old.state.terms.channels)) }
         ensures state { OnOk result (self.new.state ≡ with_change (join channel.now) self.old.state) }
         ensures err { OnErr result (self.new ≡ self.old) }
+        ensures due { OnErr result (is_crowded channel.now self.old.state.terms.channels ≡ false) }
     {
         if count_others(self.channels.as_slice(), channel) >= CHANNELS {
             return Ok(false);
@@ -196,6 +198,15 @@ impl SocketHold {
             recover: None,
             ended,
         })
+    }
+
+    /// Its kind: a WebSocket.
+    pub fn kind(&self) -> HoldKind
+        ensures of { result ≡ self.now.state.terms.kind }
+        ensures is { result ≡ SocketKind }
+    {
+        let _ = &self.ended;
+        HoldKind::Socket
     }
 
     /// Why it ended, and none while it is live.

@@ -6,7 +6,7 @@ ghost use Rattle.gp_plain.specs.Growth.{grown};
 ghost use Rattle.gp_plain.specs.declared.item.Item.{Item};
 ghost use Rattle.gp_plain.specs.declared.event.HoldKind.TheVariants.{Plain as PlainKind};
 ghost use Rattle.gp_hold_stream.specs.States.{plain_spec};
-ghost use Rattle.gp_hold_stream.specs.Plain.{IsPlainPlanned, IsPlainReady};
+ghost use Rattle.gp_plain.specs.Plans.{IsRunPlanned, IsRunReady};
 
 use gp_plain::{
     Body, EndCause, HoldKind, Item, ItemId, Names, Pending, Piece, Pieces, Run, Taken, copy_names,
@@ -15,10 +15,7 @@ use std::alloc::{AllocError, Global};
 use std::marker::Model;
 
 /// What an item is to do to a plain hold: a run of one piece, or of none.
-#[derive(Drop)]
-pub struct PlainPlan {
-    run: Run,
-}
+pub type PlainPlan = Run;
 
 /// A stream hold on channels, without a position.
 #[derive(Drop)]
@@ -68,27 +65,27 @@ impl PlainHold {
     /// What an item does. The hold stays as it is.
     pub fn plan(&self, item: &Item) -> Result<PlainPlan, AllocError>
         requires { self.now.state.ended ≡ None }
-        ensures { (window : List Item) → IfOk result (IsPlainPlanned self.now (offered item.now window self.now.state)) }
+        ensures { (window : List Item) → IfOk result (IsRunPlanned self.now (offered item.now window self.now.state)) }
     {
         let mut run = Run::behind(&self.pending);
         if item.stream.is_some() && item.is_heard(&self.channels) {
             run.add(&self.pending, item.stream_piece(self.alloc)?)?;
         }
         run.reserve(&self.pending)?;
-        Ok(PlainPlan { run })
+        Ok(run)
     }
 
     /// Carries out a plan that was made of this hold in its present state, and says whether the log grew. It takes no
     /// memory. A plain hold has no mark to settle.
     pub fn commit(&mut self, plan: PlainPlan) -> bool
-        requires { IsPlainReady self.old plan }
-        ensures state { self.new.state ≡ grown self.old.state plan.run }
+        requires { IsRunReady self.old plan }
+        ensures state { self.new.state ≡ grown self.old.state plan }
         ensures settled { (went_on : Bool) (window : List Item) → settled_if went_on window self.new.state ≡ self.new.state }
-        ensures grew { result ≡ not (length plan.run.pieces == 0) }
+        ensures grew { result ≡ not (length plan.pieces == 0) }
     {
-        let grows = !plan.run.is_empty();
-        self.ended = plan.run.ended();
-        self.pending.append(plan.run);
+        let grows = !plan.is_empty();
+        self.ended = plan.ended();
+        self.pending.append(plan);
         grows
     }
 

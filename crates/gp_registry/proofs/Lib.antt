@@ -7,3 +7,4 @@ pub mod Finding
 pub mod Serving
 pub mod Paging
 mod Planning
+pub mod Changing

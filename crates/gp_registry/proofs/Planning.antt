@@ -1,16 +1,15 @@
--- What a plan of a plain hold is to a hold that may have ended.
+-- What a run of pieces is to a hold that may have ended.
 use Rattle.std.proofs.Common.{◌≡◌, ℕ, Bool, true, false, cond, not, ◌&&◌, ◌||◌, List, [], ◌∷◌, refl, sym, ap, ◌∙◌, Option, Some, None, is_none, is_some}
 use Rattle.std.specs.List.{list_any}
 use Rattle.gp_plain.specs.declared.item.Item.{Item}
 use Rattle.gp_plain.specs.Items.{is_on, is_same}
 use Rattle.gp_plain.specs.Follow.{is_repeat}
 use Rattle.gp_plain.specs.Holds.{State, offered, grew}
-use Rattle.gp_plain.specs.Plans.{Machine}
+use Rattle.gp_plain.specs.Plans.{Machine, IsRunPlanned}
 use Rattle.gp_plain.specs.declared.reply.EndCause.{EndCause}
-use Rattle.gp_hold_stream.specs.declared.plain.PlainPlan.{PlainPlan}
-use Rattle.gp_hold_stream.specs.Plain.{IsPlainPlanned}
+use Rattle.gp_plain.specs.Growth.{Growth}
 use Rattle.gp_registry.specs.Keeps.{offered_if}
-use Rattle.gp_registry.specs.Stages.{IsPlainStaged}
+use Rattle.gp_registry.specs.Stages.{IsRunStaged}
 
 absurd_true : {A : Type 0} → false ≡ true → A
 absurd_true e = cc
@@ -18,8 +17,8 @@ absurd_true e = cc
 live_is : (item : Item) (window : List Item) (s : State) → s.ended ≡ None → offered item window s ≡ offered_if item window s
 live_is item window s n = sym (ap (λ e. cond (not (is_some e)) (offered item window s) s) n)
 
-pub plain_staged : (item : Item) (window : List Item) (m : Machine) (plan : PlainPlan) → m.state.ended ≡ None → IsPlainPlanned m (offered item window m.state) plan → IsPlainStaged item window m (Some plan)
-plain_staged item window m plan n p =
+pub run_staged : (item : Item) (window : List Item) (m : Machine) (plan : Growth) → m.state.ended ≡ None → IsRunPlanned m (offered item window m.state) plan → IsRunStaged item window m (Some plan)
+run_staged item window m plan n p =
     let same = live_is item window m.state n in
     record { ready = p.ready; effect = p.effect ∙ same; told = p.told ∙ ap (grew m.state) same }
 

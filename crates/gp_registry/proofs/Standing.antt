@@ -13,13 +13,13 @@ use Rattle.gp_plain.specs.declared.reply.Reply.{Reply}
 use Rattle.gp_plain.specs.declared.reply.Reply.TheVariants.{Attached, Full, Published, Repeat, Taken, Done, Foreign}
 use Rattle.gp_plain.specs.Pieces.{id_or}
 use Rattle.gp_plain.specs.Follow.{last_items, is_repeat}
-use Rattle.gp_plain.specs.Holds.{State, Held, pending, position, ended, is_live, offered, settled_if, served, grew, RecoveryPage, taken_of, taken_from, paged_from, page_reply, failed, failure_reply, let_go, begun}
+use Rattle.gp_plain.specs.Holds.{State, Held, pending, position, ended, is_live, offered, settled_if, served, grew, RecoveryPage, taken_of, taken_from, paged_from, page_reply, failed, failure_reply, let_go, begun, SocketChange, push, join, leave, changed_by, change_reply}
 use Rattle.gp_plain.specs.History.{Past, kept_count, has_place, if_kept, kept_at, refused_or, changed_if, changed, served_by, with_item, with_hold, after_event, after, nothing, past_of, held, answer, reply, page_of, pending_at, position_at, cause_at}
 use Rattle.gp_plain.specs.Standing.{Kept, Standing, kept_of, kept_from, standing_of, StandsFor}
 use Rattle.gp_plain.proofs.Windows.{last_push_again}
 use Rattle.gp_plain.proofs.Released.{have_ended}
 use Rattle.gp_registry.specs.Keeps.{pushed, served_kept, grew_kept, taken_kept}
-use Rattle.gp_registry.specs.Steps.{found, if_own, replaced, kept_after_take, kept_after_page, kept_after_failure, kept_after_detach, has_place_kept, fresh_kept, attached, published, stepped, refused_or_kept, answered, kept_pending, kept_position, kept_cause}
+use Rattle.gp_registry.specs.Steps.{found, if_own, replaced, kept_after_take, kept_after_page, kept_after_failure, kept_after_detach, has_place_kept, fresh_kept, attached, published, stepped, refused_or_kept, answered, kept_pending, kept_position, kept_cause, kept_after_change}
 
 absurd_true : {A : Type 0} → false ≡ true → A
 absurd_true e = cc
@@ -36,6 +36,9 @@ after_page_is window page n h r = rw r refl
 
 after_failure_is : (n : ℕ) (h : Held) → h.released ≡ false → one n (failed h) ≡ kept_after_failure (kept_of n h)
 after_failure_is n h r = rw r refl
+
+after_change_is : (change : SocketChange) (n : ℕ) (h : Held) → h.released ≡ false → one n (changed_by change h) ≡ kept_after_change change (kept_of n h)
+after_change_is change n h r = rw r refl
 
 after_detach_is : (n : ℕ) (h : Held) → h.released ≡ false → one n (let_go h) ≡ kept_after_detach (kept_of n h)
 after_detach_is n h r = refl
@@ -226,9 +229,9 @@ stepped_is past who (Page hold from to bytes then) =
     let page = page_of from to bytes then in
     cc (changed_length who hold (paged_from window page) past.holds, changed_is who hold (paged_from window page) (kept_after_page window page) past.holds (after_page_is window page))
 stepped_is past who (PageFailed hold) = cc (changed_length who hold failed past.holds, changed_is who hold failed kept_after_failure past.holds after_failure_is)
-stepped_is past who (Push hold message) = refl
-stepped_is past who (Join hold channel) = refl
-stepped_is past who (Leave hold channel) = refl
+stepped_is past who (Push hold message) = cc (changed_length who hold (changed_by (push message)) past.holds, changed_is who hold (changed_by (push message)) (kept_after_change (push message)) past.holds (after_change_is (push message)))
+stepped_is past who (Join hold channel) = cc (changed_length who hold (changed_by (join channel)) past.holds, changed_is who hold (changed_by (join channel)) (kept_after_change (join channel)) past.holds (after_change_is (join channel)))
+stepped_is past who (Leave hold channel) = cc (changed_length who hold (changed_by (leave channel)) past.holds, changed_is who hold (changed_by (leave channel)) (kept_after_change (leave channel)) past.holds (after_change_is (leave channel)))
 
 refused_by : (who n : ℕ) (h : Held) (b : Bool) (r : Held → Reply) (s : Kept → Reply) → h.released ≡ b → ((k : Held) → k.released ≡ false → r k ≡ s (kept_of n k))
     → refused_or who n (cond b None (Some h)) r ≡ refused_or_kept who n (option_map (kept_of n) (cond b None (Some h))) s
@@ -256,9 +259,9 @@ answered_is past who (Take hold now) all = refused_is who hold past.holds (λ (h
 answered_is past who (Detach hold) all = refused_is who hold past.holds (λ (h : Held). Done) (λ (k : Kept). Done) (λ k r. refl)
 answered_is past who (Page hold from to bytes then) all = refused_is who hold past.holds (λ (h : Held). page_reply from h.state) (λ (k : Kept). page_reply from k.state) (λ k r. refl)
 answered_is past who (PageFailed hold) all = refused_is who hold past.holds (λ (h : Held). failure_reply h.state) (λ (k : Kept). failure_reply k.state) (λ k r. refl)
-answered_is past who (Push hold message) all = refl
-answered_is past who (Join hold channel) all = refl
-answered_is past who (Leave hold channel) all = refl
+answered_is past who (Push hold message) all = refused_is who hold past.holds (λ (h : Held). change_reply (push message) h.state) (λ (k : Kept). change_reply (push message) k.state) (λ k r. refl)
+answered_is past who (Join hold channel) all = refused_is who hold past.holds (λ (h : Held). change_reply (join channel) h.state) (λ (k : Kept). change_reply (join channel) k.state) (λ k r. refl)
+answered_is past who (Leave hold channel) all = refused_is who hold past.holds (λ (h : Held). change_reply (leave channel) h.state) (λ (k : Kept). change_reply (leave channel) k.state) (λ k r. refl)
 
 -- histories
 

@@ -3,7 +3,7 @@ use Rattle.std.specs.Prelude.{ℕ, Bool, cond, List, [], ◌∷◌, ◌++◌}
 use Rattle.gp_plain.specs.declared.item.Item.{Item}
 use Rattle.gp_plain.specs.declared.reply.Taken.{Taken}
 use Rattle.gp_plain.specs.Follow.{last_items}
-use Rattle.gp_plain.specs.Holds.{State, RecoveryPage, is_live, offered, grew, served, taken_of, after_take, after_page, after_failure}
+use Rattle.gp_plain.specs.Holds.{State, RecoveryPage, is_live, offered, grew, served, taken_of, after_take, after_page, after_failure, SocketChange, after_change}
 use Rattle.gp_plain.specs.Standing.{Kept}
 
 -- the window with one more item
@@ -27,6 +27,9 @@ after_page_kept window page k = record k { state = after_page window page k.stat
 
 abbrev pub after_failure_kept : Kept → Kept
 after_failure_kept k = record k { state = after_failure k.state }
+
+abbrev pub after_change_kept : SocketChange → Kept → Kept
+after_change_kept change k = record k { state = after_change change k.state }
 
 -- what an item does to a live hold, before its marks are settled
 abbrev pub offered_if : Item → List Item → State → State

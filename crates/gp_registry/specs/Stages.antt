@@ -2,21 +2,20 @@
 use Rattle.std.specs.Prelude.{ℕ, ◌≡◌, ◌==◌, ◌+◌, ◌<◌, ◌≤◌, Bool, false, not, List, [], ◌∷◌, length, map, Option, Some, None}
 use Rattle.gp_plain.specs.declared.item.Item.{Item}
 use Rattle.gp_plain.specs.declared.plan.Plan.{Plan}
-use Rattle.gp_plain.specs.Growth.{grown}
+use Rattle.gp_plain.specs.Growth.{Growth, grown}
 use Rattle.gp_plain.specs.Holds.{State, grew, settled_if}
-use Rattle.gp_plain.specs.Plans.{Machine, with_plan, grows, IsPlanReady}
+use Rattle.gp_plain.specs.Plans.{Machine, with_plan, grows, IsPlanReady, IsRunReady}
 use Rattle.gp_plain.specs.Standing.{Kept, Standing}
-use Rattle.gp_hold_stream.specs.declared.plain.PlainPlan.{PlainPlan}
-use Rattle.gp_hold_stream.specs.Plain.{IsPlainReady}
 use Rattle.gp_registry.specs.Keeps.{offered_if}
 use Rattle.gp_registry.specs.declared.machine.HoldMachine.{HoldMachine}
-use Rattle.gp_registry.specs.declared.machine.HoldMachine.TheVariants.{Stream, Plain, Response}
+use Rattle.gp_registry.specs.declared.machine.HoldMachine.TheVariants.{Stream, Plain, Response, Socket}
 use Rattle.gp_registry.specs.declared.hold.Hold.{Hold}
 
 abbrev pub state_of : HoldMachine → State
 state_of (Stream hold plan) = hold.state
 state_of (Plain hold plan) = hold.state
 state_of (Response hold plan) = hold.state
+state_of (Socket hold plan) = hold.state
 
 abbrev pub kept_hold : Hold → Kept
 kept_hold h = record { number = h.number; owner = h.owner; state = state_of h.machine.value }
@@ -28,43 +27,46 @@ abbrev pub planned_if : State → Option Plan → State
 planned_if s None = s
 planned_if s (Some plan) = with_plan s plan
 
-abbrev pub plain_if : State → Option PlainPlan → State
-plain_if s None = s
-plain_if s (Some plan) = grown s plan.run
+abbrev pub run_if : State → Option Growth → State
+run_if s None = s
+run_if s (Some plan) = grown s plan
 
 -- a hold once its plan is carried out
 abbrev pub staged : HoldMachine → State
 staged (Stream hold plan) = planned_if hold.state plan
-staged (Plain hold plan) = plain_if hold.state plan
+staged (Plain hold plan) = run_if hold.state plan
 staged (Response hold plan) = planned_if hold.state plan
+staged (Socket hold plan) = run_if hold.state plan
 
 abbrev pub grows_if : Option Plan → Bool
 grows_if None = false
 grows_if (Some plan) = grows plan
 
-abbrev pub plain_grows_if : Option PlainPlan → Bool
-plain_grows_if None = false
-plain_grows_if (Some plan) = not (length plan.run.pieces == 0)
+abbrev pub run_grows_if : Option Growth → Bool
+run_grows_if None = false
+run_grows_if (Some plan) = not (length plan.pieces == 0)
 
 -- its log grows then
 abbrev pub appends : HoldMachine → Bool
 appends (Stream hold plan) = grows_if plan
-appends (Plain hold plan) = plain_grows_if plan
+appends (Plain hold plan) = run_grows_if plan
 appends (Response hold plan) = grows_if plan
+appends (Socket hold plan) = run_grows_if plan
 
 abbrev pub IsReadyIf : Machine → Option Plan → Type 0
 IsReadyIf m None = Unit {0}
 IsReadyIf m (Some plan) = IsPlanReady m plan
 
-abbrev pub IsPlainReadyIf : Machine → Option PlainPlan → Type 0
-IsPlainReadyIf m None = Unit {0}
-IsPlainReadyIf m (Some plan) = IsPlainReady m plan
+abbrev pub IsRunReadyIf : Machine → Option Growth → Type 0
+IsRunReadyIf m None = Unit {0}
+IsRunReadyIf m (Some plan) = IsRunReady m plan
 
 -- its plan can be carried out
 abbrev pub IsReadyHold : HoldMachine → Type 0
 IsReadyHold (Stream hold plan) = IsReadyIf hold plan
-IsReadyHold (Plain hold plan) = IsPlainReadyIf hold plan
+IsReadyHold (Plain hold plan) = IsRunReadyIf hold plan
 IsReadyHold (Response hold plan) = IsReadyIf hold plan
+IsReadyHold (Socket hold plan) = IsRunReadyIf hold plan
 
 abbrev pub HasRoom : Hold → Type 0
 HasRoom h = IsReadyHold h.machine.value
@@ -79,10 +81,10 @@ pub record IsStreamStaged (item : Item) (window : List Item) (m : Machine) (plan
   pub effect : planned_if m.state plan ≡ offered_if item window m.state
   pub told : grows_if plan ≡ grew m.state (offered_if item window m.state)
 
-pub record IsPlainStaged (item : Item) (window : List Item) (m : Machine) (plan : Option PlainPlan) : Type 0 where
-  pub ready : IsPlainReadyIf m plan
-  pub effect : plain_if m.state plan ≡ offered_if item window m.state
-  pub told : plain_grows_if plan ≡ grew m.state (offered_if item window m.state)
+pub record IsRunStaged (item : Item) (window : List Item) (m : Machine) (plan : Option Growth) : Type 0 where
+  pub ready : IsRunReadyIf m plan
+  pub effect : run_if m.state plan ≡ offered_if item window m.state
+  pub told : run_grows_if plan ≡ grew m.state (offered_if item window m.state)
 
 -- what an item does to a hold is planned, and can be carried out
 pub record IsStagedBy (item : Item) (window : List Item) (m : HoldMachine) : Type 0 where

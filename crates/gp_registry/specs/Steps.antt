@@ -10,10 +10,10 @@ use Rattle.gp_plain.specs.declared.item.Item.{Item}
 use Rattle.gp_plain.specs.declared.event.HoldSpec.{HoldSpec}
 use Rattle.gp_plain.specs.Pieces.{id_or}
 use Rattle.gp_plain.specs.Follow.{is_repeat}
-use Rattle.gp_plain.specs.Holds.{RecoveryPage, begun_state, page_reply, failure_reply}
+use Rattle.gp_plain.specs.Holds.{RecoveryPage, begun_state, page_reply, failure_reply, SocketChange, push, join, leave, change_reply}
 use Rattle.gp_plain.specs.History.{page_of}
 use Rattle.gp_plain.specs.Standing.{Kept, Standing}
-use Rattle.gp_registry.specs.Keeps.{pushed, served_kept, grew_kept, taken_kept, after_take_kept, after_page_kept, after_failure_kept}
+use Rattle.gp_registry.specs.Keeps.{pushed, served_kept, grew_kept, taken_kept, after_take_kept, after_page_kept, after_failure_kept, after_change_kept}
 
 -- the kept hold of a number
 abbrev pub found : ℕ → List Kept → Option Kept
@@ -46,6 +46,9 @@ kept_after_page window page k = after_page_kept window page k ∷ []
 abbrev pub kept_after_failure : Kept → List Kept
 kept_after_failure k = after_failure_kept k ∷ []
 
+abbrev pub kept_after_change : SocketChange → Kept → List Kept
+kept_after_change change k = after_change_kept change k ∷ []
+
 abbrev pub has_place_kept : List Kept → Bool
 has_place_kept kept = nat_lt (length kept) 4096
 
@@ -67,9 +70,9 @@ stepped s who (Take hold now) = record s { kept = replaced who hold (kept_after_
 stepped s who (Detach hold) = record s { kept = replaced who hold kept_after_detach s.kept }
 stepped s who (Page hold from to bytes then) = record s { kept = replaced who hold (kept_after_page s.window (page_of from to bytes then)) s.kept }
 stepped s who (PageFailed hold) = record s { kept = replaced who hold kept_after_failure s.kept }
-stepped s who (Push hold message) = s
-stepped s who (Join hold channel) = s
-stepped s who (Leave hold channel) = s
+stepped s who (Push hold message) = record s { kept = replaced who hold (kept_after_change (push message)) s.kept }
+stepped s who (Join hold channel) = record s { kept = replaced who hold (kept_after_change (join channel)) s.kept }
+stepped s who (Leave hold channel) = record s { kept = replaced who hold (kept_after_change (leave channel)) s.kept }
 
 abbrev pub refused_or_kept : ℕ → ℕ → Option Kept → (Kept → Reply) → Reply
 refused_or_kept who number None reply = Unknown number
@@ -84,9 +87,9 @@ answered s who (Take hold now) = refused_or_kept who hold (found hold s.kept) (�
 answered s who (Detach hold) = refused_or_kept who hold (found hold s.kept) (λ (k : Kept). Done)
 answered s who (Page hold from to bytes then) = refused_or_kept who hold (found hold s.kept) (λ (k : Kept). page_reply from k.state)
 answered s who (PageFailed hold) = refused_or_kept who hold (found hold s.kept) (λ (k : Kept). failure_reply k.state)
-answered s who (Push hold message) = Done
-answered s who (Join hold channel) = Done
-answered s who (Leave hold channel) = Done
+answered s who (Push hold message) = refused_or_kept who hold (found hold s.kept) (λ (k : Kept). change_reply (push message) k.state)
+answered s who (Join hold channel) = refused_or_kept who hold (found hold s.kept) (λ (k : Kept). change_reply (join channel) k.state)
+answered s who (Leave hold channel) = refused_or_kept who hold (found hold s.kept) (λ (k : Kept). change_reply (leave channel) k.state)
 
 -- what waits for a kept hold; nothing where it is not kept
 abbrev pub kept_pending : Option Kept → List Piece

@@ -1,9 +1,12 @@
-ghost use Rattle.std.specs.Prelude.{◌≡◌, ◌≤◌, ℕ, None, IfOk, OnOk, OnErr, All, count_by, length, map};
+ghost use Rattle.std.specs.Prelude.{◌≡◌, ◌≤◌, ℕ, None, IfOk, OnOk, OnErr, All, count_by, length, map, IfErr, IsOk};
 ghost use Rattle.gp_plain.specs.History.{page_of};
-ghost use Rattle.gp_plain.specs.Holds.{failure_reply, page_refusal, page_reply};
-ghost use Rattle.gp_registry.specs.Keeps.{after_failure_kept, after_page_kept, after_take_kept, taken_kept};
+ghost use Rattle.gp_plain.specs.Holds.{failure_reply, page_refusal, page_reply, change_reply};
+ghost use Rattle.gp_registry.specs.Keeps.{after_failure_kept, after_page_kept, after_take_kept, taken_kept, after_change_kept};
 ghost use Rattle.gp_registry.specs.Stages.{HasRoom, IsStaged, appends, committed, kept_hold, number_of};
+ghost use Rattle.gp_registry.specs.Changes.{IsLeave, change_of};
+ghost use Rattle.gp_plain.specs.declared.reply.Reply.TheVariants.{Done};
 
+use crate::change::Change;
 use crate::machine::HoldMachine;
 use gp_plain::{Body, Item, ItemId, Reply, Taken, Then};
 use gp_window::Window;
@@ -70,6 +73,18 @@ impl Hold {
         ensures due { OnErr result (page_refusal (kept_hold self.old).state ≡ None) }
     {
         self.machine.page(from, to, bytes, then, window)
+    }
+
+    /// Does what an owner asks of a socket, and answers it. An error changes nothing, hands the change back, and comes only
+    /// where it isn't refused.
+    pub fn change(&mut self, change: Change) -> Result<Reply, (Change, AllocError)>
+        ensures reply { IfOk result (λ reply. reply ≡ change_reply (change_of change) (kept_hold self.old).state) }
+        ensures leaves { OnOk result (kept_hold self.new ≡ after_change_kept (change_of change) (kept_hold self.old)) }
+        ensures err { IfErr result (λ e. (e.0 ≡ change) × (kept_hold self.new ≡ kept_hold self.old)) }
+        ensures due { OnErr result (change_reply (change_of change) (kept_hold self.old).state ≡ Done) }
+        ensures free { IsLeave change → IsOk result }
+    {
+        self.machine.change(change)
     }
 
     /// Tells it that a page of its recovery can't be had, and answers that. It takes no memory.

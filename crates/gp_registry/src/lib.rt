@@ -6,10 +6,10 @@
 //! changes nothing.
 #![tactic(auto)]
 
+mod change;
 mod hold;
 mod machine;
 mod order;
-mod poll;
 mod registry;
 
 pub use registry::Registry;

@@ -1,13 +1,16 @@
-ghost use Rattle.std.specs.Prelude.{◌≡◌, List, None, Some, IfOk, OnOk, OnErr, option_map, true, false};
-ghost use Rattle.gp_plain.specs.Fit.{fits_spec, is_built_spec};
+ghost use Rattle.std.specs.Prelude.{◌≡◌, List, None, Some, IfOk, IfErr, IsOk, OnOk, OnErr, option_map, true, false};
+ghost use Rattle.gp_plain.specs.Fit.{fits_spec};
 ghost use Rattle.gp_plain.specs.History.{page_of};
-ghost use Rattle.gp_plain.specs.Holds.{after_failure, after_page, after_take, begun_state, failure_reply, is_stream, page_refusal, page_reply, refusal, settled_if, taken_of};
+ghost use Rattle.gp_plain.specs.Holds.{after_change, after_failure, after_page, after_take, begun_state, change_reply, done_or_full, is_socket, with_change, failure_reply, is_stream, page_refusal, page_reply, refusal, settled_if, taken_of};
 ghost use Rattle.gp_plain.specs.Plans.{IsPlanReady, grows, with_plan};
 ghost use Rattle.gp_plain.specs.declared.item.Item.{Item};
-ghost use Rattle.gp_registry.specs.Stages.{IsPlainStaged, IsReadyHold, IsStagedBy, IsStreamStaged, appends, staged, state_of};
+ghost use Rattle.gp_plain.specs.declared.reply.Reply.TheVariants.{Done};
+ghost use Rattle.gp_registry.specs.Changes.{IsLeave, change_of};
+ghost use Rattle.gp_registry.specs.Stages.{IsRunStaged, IsReadyHold, IsStagedBy, IsStreamStaged, appends, staged, state_of};
 
-use crate::poll::LongPoll;
-use gp_hold_response::ResponsePlan;
+use crate::change::Change;
+use gp_hold_response::{ResponseHold, ResponsePlan};
+use gp_hold_socket::{SocketHold, SocketPlan};
 use gp_hold_stream::{PlainHold, PlainPlan, StreamHold, StreamPlan};
 use gp_plain::{Body, EndCause, HoldKind, HoldSpec, Item, ItemId, Pieces, Reply, Taken, Then};
 use gp_window::Window;
@@ -28,14 +31,18 @@ pub enum HoldMachine {
     },
     /// A response hold, and what an item is to do to it.
     Response {
-        hold: LongPoll,
+        hold: ResponseHold,
         plan: Option<ResponsePlan>,
+    },
+    /// A socket, and what an item is to do to it.
+    Socket {
+        hold: SocketHold,
+        plan: Option<SocketPlan>,
     },
 }
 
 /// A hold that is served nothing yet.
 pub fn begun(alloc: Global, spec: &HoldSpec, window: &Window) -> Result<HoldMachine, AllocError>
-    requires built { is_built_spec spec.now ≡ true }
     requires fits { fits_spec spec.now ≡ true }
     ensures { IfOk result (λ machine. state_of machine ≡ begun_state spec.now window.now.items) }
 {
@@ -59,10 +66,13 @@ pub fn begun(alloc: Global, spec: &HoldSpec, window: &Window) -> Result<HoldMach
             deadline,
             again,
         } => Ok(HoldMachine::Response {
-            hold: LongPoll::begin(alloc, channels, prev.as_ref(), *deadline, *again, window)?,
+            hold: ResponseHold::begin(alloc, channels, prev.as_ref(), *deadline, *again, window)?,
             plan: None,
         }),
-        HoldSpec::Socket => unreachable!(),
+        HoldSpec::Socket => Ok(HoldMachine::Socket {
+            hold: SocketHold::begin(alloc),
+            plan: None,
+        }),
     }
 }
 
@@ -97,7 +107,7 @@ fn stage_plain(
     plan: &mut Option<PlainPlan>,
     item: &Item,
 ) -> Result<(), AllocError>
-    ensures { (window : List Item) → OnOk result (IsPlainStaged item.now window hold.now plan.new) }
+    ensures { (window : List Item) → OnOk result (IsRunStaged item.now window hold.now plan.new) }
 {
     if hold.hears(item) {
         *plan = Some(hold.plan(item)?);
@@ -108,7 +118,7 @@ fn stage_plain(
 }
 
 fn stage_response(
-    hold: &LongPoll,
+    hold: &ResponseHold,
     plan: &mut Option<ResponsePlan>,
     item: &Item,
     window: &Window,
@@ -117,6 +127,21 @@ fn stage_response(
 {
     if hold.hears(item) {
         *plan = Some(hold.offer(item, window)?);
+    } else {
+        forget(plan);
+    }
+    Ok(())
+}
+
+fn stage_socket(
+    hold: &SocketHold,
+    plan: &mut Option<SocketPlan>,
+    item: &Item,
+) -> Result<(), AllocError>
+    ensures { (window : List Item) → OnOk result (IsRunStaged item.now window hold.now plan.new) }
+{
+    if hold.hears(item) {
+        *plan = Some(hold.offer(item)?);
     } else {
         forget(plan);
     }
@@ -134,6 +159,19 @@ fn commit_stream(hold: &mut StreamHold, plan: StreamPlan, window: &Window) -> bo
         hold.settle(window);
     }
     grew
+}
+
+/// Carries out a plan, and settles the mark of a hold that went on.
+fn commit_response(hold: &mut ResponseHold, plan: ResponsePlan, window: &Window) -> bool
+    requires { IsPlanReady hold.old plan }
+    ensures state { hold.new.state ≡ settled_if (grows plan) window.now.items (with_plan hold.old.state plan) }
+    ensures grew { result ≡ grows plan }
+{
+    let went_on = hold.commit(plan);
+    if went_on {
+        hold.settle(window);
+    }
+    went_on
 }
 
 /// Why a page is refused by a hold of this end and this kind: it ended, or it is no reliable stream.
@@ -195,6 +233,68 @@ fn fail_stream(hold: &mut StreamHold) -> Reply
     }
 }
 
+/// Why a change is refused by a hold of this end and this kind: it ended, or it is no socket.
+fn change_refusal(cause: Option<EndCause>, kind: HoldKind) -> Option<Reply>
+    ensures { result ≡ refusal cause (is_socket kind) kind }
+{
+    match (cause, kind) {
+        (Some(end), _) => Some(Reply::Gone(end)),
+        (None, HoldKind::Socket) => None,
+        (None, kind) => Some(Reply::OtherKind(kind)),
+    }
+}
+
+/// How a hold that is no socket refuses a change.
+fn unchanged(cause: Option<EndCause>, kind: HoldKind) -> Reply
+    requires { is_socket kind ≡ false }
+    ensures { refusal cause (is_socket kind) kind ≡ Some result }
+{
+    match change_refusal(cause, kind) {
+        Some(reply) => reply,
+        None => unreachable!(),
+    }
+}
+
+/// Does to a live socket what its owner asks. An error changes nothing, and hands the change back.
+fn change_live(hold: &mut SocketHold, change: Change) -> Result<Reply, (Change, AllocError)>
+    requires { hold.old.state.ended ≡ None }
+    ensures reply { IfOk result (λ reply. reply ≡ done_or_full (change_of change) hold.old.state.terms.channels) }
+    ensures state { OnOk result (hold.new.state ≡ with_change (change_of change) hold.old.state) }
+    ensures err { IfErr result (λ e. (e.0 ≡ change) × (hold.new.state ≡ hold.old.state)) }
+    ensures due { OnErr result (done_or_full (change_of change) hold.old.state.terms.channels ≡ Done) }
+    ensures free { IsLeave change → IsOk result }
+{
+    match change {
+        Change::Push(message) => match hold.push(message) {
+            Ok(()) => Ok(Reply::Done),
+            Err((message, refused)) => Err((Change::Push(message), refused)),
+        },
+        Change::Join(channel) => match hold.join(&channel) {
+            Ok(true) => Ok(Reply::Done),
+            Ok(false) => Ok(Reply::Full(8)),
+            Err(refused) => Err((Change::Join(channel), refused)),
+        },
+        Change::Leave(channel) => {
+            hold.leave(&channel);
+            Ok(Reply::Done)
+        }
+    }
+}
+
+/// Does to a socket what its owner asks, where it is live.
+fn change_socket(hold: &mut SocketHold, change: Change) -> Result<Reply, (Change, AllocError)>
+    ensures reply { IfOk result (λ reply. reply ≡ change_reply (change_of change) hold.old.state) }
+    ensures state { OnOk result (hold.new.state ≡ after_change (change_of change) hold.old.state) }
+    ensures err { IfErr result (λ e. (e.0 ≡ change) × (hold.new.state ≡ hold.old.state)) }
+    ensures due { OnErr result (change_reply (change_of change) hold.old.state ≡ Done) }
+    ensures free { IsLeave change → IsOk result }
+{
+    match change_refusal(hold.cause(), hold.kind()) {
+        Some(refused) => Ok(refused),
+        None => change_live(hold, change),
+    }
+}
+
 /// Takes a plan out where there is one, so that nothing is moved where there is none.
 fn taken<T: Drop>(plan: &mut Option<T>) -> Option<T>
     ensures { result ≡ plan.old }
@@ -215,6 +315,7 @@ impl HoldMachine {
             HoldMachine::Stream { hold, plan } => stage_stream(hold, plan, item, window),
             HoldMachine::Plain { hold, plan } => stage_plain(hold, plan, item),
             HoldMachine::Response { hold, plan } => stage_response(hold, plan, item, window),
+            HoldMachine::Socket { hold, plan } => stage_socket(hold, plan, item),
         }
     }
 
@@ -235,7 +336,11 @@ impl HoldMachine {
                 None => false,
             },
             HoldMachine::Response { hold, plan } => match taken(plan) {
-                Some(plan) => hold.commit(plan, window),
+                Some(plan) => commit_response(hold, plan, window),
+                None => false,
+            },
+            HoldMachine::Socket { hold, plan } => match taken(plan) {
+                Some(plan) => hold.commit(plan),
                 None => false,
             },
         }
@@ -251,6 +356,7 @@ impl HoldMachine {
             HoldMachine::Stream { hold, .. } => hold.take(),
             HoldMachine::Plain { hold, .. } => hold.take(),
             HoldMachine::Response { hold, .. } => hold.take(now),
+            HoldMachine::Socket { hold, .. } => hold.take(),
         }
     }
 
@@ -273,6 +379,7 @@ impl HoldMachine {
             HoldMachine::Stream { hold, .. } => page_stream(hold, from, to, bytes, then, window),
             HoldMachine::Plain { hold, .. } => Ok(refused(hold.cause(), hold.kind())),
             HoldMachine::Response { hold, .. } => Ok(refused(hold.cause(), hold.kind())),
+            HoldMachine::Socket { hold, .. } => Ok(refused(hold.cause(), hold.kind())),
         }
     }
 
@@ -285,6 +392,24 @@ impl HoldMachine {
             HoldMachine::Stream { hold, .. } => fail_stream(hold),
             HoldMachine::Plain { hold, .. } => refused(hold.cause(), hold.kind()),
             HoldMachine::Response { hold, .. } => refused(hold.cause(), hold.kind()),
+            HoldMachine::Socket { hold, .. } => refused(hold.cause(), hold.kind()),
+        }
+    }
+
+    /// Does what an owner asks of a socket, and answers it. An error changes nothing, hands the change back, and comes only
+    /// where it isn't refused. To leave a channel takes no memory.
+    pub fn change(&mut self, change: Change) -> Result<Reply, (Change, AllocError)>
+        ensures reply { IfOk result (λ reply. reply ≡ change_reply (change_of change) (state_of self.old)) }
+        ensures state { OnOk result (state_of self.new ≡ after_change (change_of change) (state_of self.old)) }
+        ensures err { IfErr result (λ e. (e.0 ≡ change) × (state_of self.new ≡ state_of self.old)) }
+        ensures due { OnErr result (change_reply (change_of change) (state_of self.old) ≡ Done) }
+        ensures free { IsLeave change → IsOk result }
+    {
+        match self {
+            HoldMachine::Stream { hold, .. } => Ok(unchanged(hold.cause(), hold.kind())),
+            HoldMachine::Plain { hold, .. } => Ok(unchanged(hold.cause(), hold.kind())),
+            HoldMachine::Response { hold, .. } => Ok(unchanged(hold.cause(), hold.kind())),
+            HoldMachine::Socket { hold, .. } => change_socket(hold, change),
         }
     }
 
@@ -296,6 +421,7 @@ impl HoldMachine {
             HoldMachine::Stream { hold, .. } => hold.cause(),
             HoldMachine::Plain { hold, .. } => hold.cause(),
             HoldMachine::Response { hold, .. } => hold.cause(),
+            HoldMachine::Socket { hold, .. } => hold.cause(),
         }
     }
 
@@ -307,6 +433,7 @@ impl HoldMachine {
             HoldMachine::Stream { hold, .. } => hold.pending(),
             HoldMachine::Plain { hold, .. } => hold.pending(),
             HoldMachine::Response { hold, .. } => hold.pending(),
+            HoldMachine::Socket { hold, .. } => hold.pending(),
         }
     }
 
@@ -318,6 +445,7 @@ impl HoldMachine {
             HoldMachine::Stream { hold, .. } => hold.position(),
             HoldMachine::Plain { hold, .. } => hold.position(),
             HoldMachine::Response { hold, .. } => hold.position(),
+            HoldMachine::Socket { hold, .. } => hold.position(),
         }
     }
 }

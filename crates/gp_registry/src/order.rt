@@ -1,14 +1,16 @@
 //! The holds in the order of their numbers.
-ghost use Rattle.std.specs.Prelude.{◌≡◌, ◌<◌, ℕ, IfOk, OnOk, OnErr, length, map, slice_index, slice_index_or, MatchOption, false};
+ghost use Rattle.std.specs.Prelude.{◌≡◌, ◌<◌, ℕ, IfOk, OnOk, OnErr, length, map, slice_index, slice_index_or, MatchOption, false, IfErr, IsOk};
 ghost use Rattle.gp_plain.specs.History.{page_of};
-ghost use Rattle.gp_plain.specs.Holds.{failure_reply, page_reply};
+ghost use Rattle.gp_plain.specs.Holds.{failure_reply, page_reply, change_reply};
 ghost use Rattle.gp_plain.specs.Refusals.{refuses};
 ghost use Rattle.gp_registry.specs.Keeps.{taken_kept};
 ghost use Rattle.gp_registry.specs.Places.{HasNone, IsPlaceOf};
 ghost use Rattle.gp_registry.specs.Stages.{IsInOrder, Rises, kept_hold, number_of};
-ghost use Rattle.gp_registry.specs.Steps.{instead, kept_after_detach, kept_after_failure, kept_after_page, kept_after_take};
+ghost use Rattle.gp_registry.specs.Steps.{instead, kept_after_detach, kept_after_failure, kept_after_page, kept_after_take, kept_after_change};
 ghost use Rattle.gp_registry.specs.declared.hold.Hold.{Hold};
+ghost use Rattle.gp_registry.specs.Changes.{IsLeave, change_of};
 
+use crate::change::Change;
 use crate::hold::Hold;
 use gp_plain::{Body, ItemId, Reply, Taken, Then};
 use gp_window::Window;
@@ -72,6 +74,25 @@ pub fn page_at(
 {
     let own = &mut holds[place];
     own.page(from, to, bytes, then, window)
+}
+
+/// Does to the hold at a place what its owner asks of a socket, and answers it. An error changes nothing, hands the change
+/// back, and comes only where it isn't refused.
+pub fn change_at(
+    holds: &mut Vec<Hold>,
+    place: usize,
+    change: Change,
+) -> Result<Reply, (Change, AllocError)>
+    requires { place < length holds.old.items }
+    ensures gives { (d : Hold) → IfOk result (λ reply. reply ≡ change_reply (change_of change) (kept_hold (slice_index_or holds.old.items place d)).state) }
+    ensures kept { OnOk result (map kept_hold holds.new.items ≡ instead place (kept_after_change (change_of change)) (map kept_hold holds.old.items)) }
+    ensures order { (next : ℕ) → IsInOrder next holds.old.items → IsInOrder next holds.new.items }
+    ensures err { IfErr result (λ e. (e.0 ≡ change) × (map kept_hold holds.new.items ≡ map kept_hold holds.old.items)) }
+    ensures due { (d : Hold) → OnErr result (refuses (change_reply (change_of change) (kept_hold (slice_index_or holds.old.items place d)).state) ≡ false) }
+    ensures free { IsLeave change → IsOk result }
+{
+    let own = &mut holds[place];
+    own.change(change)
 }
 
 /// Tells the hold at a place that a page of its recovery can't be had, and answers that. It takes no memory.

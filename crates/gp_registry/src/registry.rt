@@ -1,5 +1,5 @@
 ghost use Rattle.std.specs.Prelude.{◌≡◌, ◌+◌, ◌^◌, ◌<◌, ◌≤◌, ◌==◌, ◌++◌, ◌∷◌, [], true, false, ℕ, List, Some, IsOk, vec_len, vec_capacity, IfOk, IfErr, OnOk, OnErr, MatchResult, All, count_by, map, length, is_some, option_map};
-ghost use Rattle.gp_plain.specs.Fit.{fits, fits_spec, is_built_spec};
+ghost use Rattle.gp_plain.specs.Fit.{fits, fits_spec};
 ghost use Rattle.gp_plain.specs.History.{cause_at, held, kept_count, pending_at, position_at, reply};
 ghost use Rattle.gp_plain.specs.Standing.{StandsFor};
 ghost use Rattle.gp_plain.specs.Pieces.{id_or};
@@ -11,10 +11,12 @@ ghost use Rattle.gp_plain.specs.Holds.{begun_state};
 ghost use Rattle.gp_registry.specs.Keeps.{pushed};
 ghost use Rattle.gp_registry.specs.Stages.{IsStaged, appends, committed, kept_hold, state_of};
 ghost use Rattle.gp_registry.specs.Steps.{answered, found, kept_pending, kept_position, kept_cause, stepped};
+ghost use Rattle.gp_registry.specs.Changes.{IsLeave, event_of};
 
+use crate::change::Change;
 use crate::hold::{Hold, commit_all, stage_all};
 use crate::machine::{HoldMachine, begun};
-use crate::order::{fail_at, page_at, place_of, release_at, take_at};
+use crate::order::{change_at, fail_at, page_at, place_of, release_at, take_at};
 use gp_plain::{Body, EndCause, Event, HoldSpec, Item, ItemId, Pieces, Reply, Then};
 use gp_window::Window;
 use std::alloc::{AllocError, Global};
@@ -64,7 +66,6 @@ fn made(
     spec: &HoldSpec,
     window: &Window,
 ) -> Result<Box<HoldMachine>, AllocError>
-    requires built { is_built_spec spec.now ≡ true }
     requires fits { fits_spec spec.now ≡ true }
     ensures same { holds.new.items ≡ holds.old.items }
     ensures place { OnOk result (vec_len holds.new < vec_capacity holds.new) }
@@ -119,7 +120,6 @@ impl Registry {
     }
 
     fn attach(&mut self, who: u64, spec: HoldSpec) -> Result<Reply, (HoldSpec, AllocError)>
-        requires built { is_built_spec spec ≡ true }
         requires fits { fits_spec spec ≡ true }
         requires room { self.old.next < 2 ^ 62 }
         ensures ok { IfOk result (λ r. (r ≡ answered self.old who (Event.Attach spec)) × (self.new ≡ stepped self.old who (Event.Attach spec))) }
@@ -210,6 +210,44 @@ impl Registry {
         fail_at(&mut self.holds, place)
     }
 
+    fn change(
+        &mut self,
+        who: u64,
+        hold: u64,
+        change: Change,
+    ) -> Result<Reply, (Change, AllocError)>
+        ensures ok { IfOk result (λ r. (r ≡ answered self.old who (event_of hold change)) × (self.new ≡ stepped self.old who (event_of hold change))) }
+        ensures err { IfErr result (λ e. (e.0 ≡ change) × (self.new ≡ self.old)) }
+        ensures due { OnErr result (refuses (answered self.old who (event_of hold change)) ≡ false) }
+        ensures free { IsLeave change → IsOk result }
+    {
+        let Some(place) = place_of(self.holds.as_slice(), hold) else {
+            return Ok(Reply::Unknown(hold));
+        };
+        let owner = self.holds[place].owner;
+        if owner != who {
+            return Ok(Reply::Foreign(owner));
+        }
+        change_at(&mut self.holds, place, change)
+    }
+
+    fn change_now(
+        &mut self,
+        who: u64,
+        hold: u64,
+        change: Change,
+    ) -> Result<Reply, (Event, AllocError)>
+        ensures ok { IfOk result (λ r. (r ≡ answered self.old who (event_of hold change)) × (self.new ≡ stepped self.old who (event_of hold change))) }
+        ensures err { IfErr result (λ e. (e.0 ≡ event_of hold change) × (self.new ≡ self.old)) }
+        ensures due { OnErr result (refuses (answered self.old who (event_of hold change)) ≡ false) }
+        ensures free { IsLeave change → IsOk result }
+    {
+        match self.change(who, hold, change) {
+            Ok(reply) => Ok(reply),
+            Err((change, refused)) => Err((change.into_event(hold), refused)),
+        }
+    }
+
     fn detach(&mut self, who: u64, hold: u64) -> Reply
         ensures { (result ≡ answered self.old who (Event.Detach hold)) × (self.new ≡ stepped self.old who (Event.Detach hold)) }
     {
@@ -265,16 +303,18 @@ impl Registry {
                 }
             },
             Event::PageFailed { hold } => Ok(self.page_failed(who, hold)),
+            Event::Push { hold, message } => self.change_now(who, hold, Change::Push(message)),
+            Event::Join { hold, channel } => self.change_now(who, hold, Change::Join(channel)),
+            Event::Leave { hold, channel } => self.change_now(who, hold, Change::Leave(channel)),
             Event::Detach { hold } => Ok(self.detach(who, hold)),
-            _ => unreachable!(),
         }
     }
 
     /// Does what the event asks, and answers it. `who` is the number of the one who asks.
     ///
     /// An error comes from want of memory alone, and never where the event is to be refused: it changes nothing, and
-    /// hands the event back. A refusal takes no memory, and neither does a PageFailed or a Detach, which is
-    /// always answered.
+    /// hands the event back. A refusal takes no memory, and neither do PageFailed, Leave and Detach, which are always
+    /// answered.
     pub fn step(&mut self, who: u64, event: Event) -> Result<Reply, (Event, AllocError)>
         requires fits { fits event ≡ true }
         requires room { self.old.next < 2 ^ 62 }

@@ -9,3 +9,6 @@ returns-in-Stream-clause-gives c = subst (λ (m : HoldMachine). IfOk c.take.resu
 
 pub returns-in-Plain-clause-gives : goal.returns-in-Plain-clause-gives
 returns-in-Plain-clause-gives c = subst (λ (m : HoldMachine). IfOk c.take-in-Plain.result (λ taken. taken ≡ taken_of c.args.now (state_of m))) (sym c.in-Plain.is) (c.take-in-Plain.ensures.gives c.args.now)
+
+pub returns-in-Socket-clause-gives : goal.returns-in-Socket-clause-gives
+returns-in-Socket-clause-gives c = subst (λ (m : HoldMachine). IfOk c.take-in-Socket.result (λ taken. taken ≡ taken_of c.args.now (state_of m))) (sym c.in-Socket.is) (c.take-in-Socket.ensures.gives c.args.now)
