@@ -1,3 +1,3 @@
 pub mod Counts
 pub mod Owned
-pub mod Sockets
+pub mod Changed

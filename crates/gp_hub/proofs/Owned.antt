@@ -53,7 +53,7 @@ none_own who (e ∷ es) all =
     ap (λ b. cond b (e ∷ filter (λ (e : Entry). e.who == who) es) (filter (λ (e : Entry). e.who == who) es)) (differs e.who who (All-head (IsOfAnother who) e es all))
     ∙ none_own who es (All-tail (IsOfAnother who) e es all)
 
-own_more : (who : ℕ) (event : Event) (seen others : List Entry) → All (IsOfAnother who) others
+pub own_more : (who : ℕ) (event : Event) (seen others : List Entry) → All (IsOfAnother who) others
     → filter (λ (e : Entry). e.who == who) ((seen ++ others) ++ entry_of who event ∷ []) ≡ filter (λ (e : Entry). e.who == who) seen ++ entry_of who event ∷ []
 own_more who event seen others all =
     let own : Entry → Bool = λ (e : Entry). e.who == who in
@@ -61,10 +61,10 @@ own_more who event seen others all =
     ∙ ap (λ xs. xs ++ filter own (entry_of who event ∷ [])) (filter-append own seen others ∙ ap (λ xs. filter own seen ++ xs) (none_own who others all) ∙ append-nil (filter own seen))
     ∙ ap (λ xs. filter own seen ++ xs) (own_one who event)
 
-others_of : (p : HubView) (before : List Entry) (c : GoesOnFrom p before) → 1 ≤ p.spare → All (IsOfAnother p.number) c.more
+pub others_of : (p : HubView) (before : List Entry) (c : GoesOnFrom p before) → 1 ≤ p.spare → All (IsOfAnother p.number) c.more
 others_of p before c some = others_by_number who_of p c.more some c.others
 
-pub made : (p q : HubView) (event : Event) (r : Reply) → IsSame p q → HasCalled p q event r → HasMade p q event r
+unfoldable pub made : (p q : HubView) (event : Event) (r : Reply) → IsSame p q → HasCalled p q event r → HasMade p q event r
 made p q event r same c =
     let seen : q.seen ≡ (p.seen ++ c.goes_on.more) ++ entry_of p.number event ∷ [] = c.seen ∙ ap (λ xs. xs ++ entry_of p.number event ∷ []) c.goes_on.is in
     record {

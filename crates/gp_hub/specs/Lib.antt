@@ -2,4 +2,4 @@ pub mod Passes
 pub mod Calls
 pub mod Sessions
 pub mod Own
-pub mod Sockets
+pub mod Changes

@@ -5,7 +5,7 @@ ghost use Rattle.gp_plain.specs.Holds.{push, join, leave};
 ghost use Rattle.gp_hub.specs.Passes.{IsSame};
 ghost use Rattle.gp_hub.specs.Calls.{HasCause};
 ghost use Rattle.gp_hub.specs.Own.{Keeps};
-ghost use Rattle.gp_hub.specs.Sockets.{HasChanged, reply_of};
+ghost use Rattle.gp_hub.specs.Changes.{HasChanged, reply_of};
 ghost use Rattle.gp_hub.specs.declared.sockets.ChangeReply.{ChangeReply as ChangeAnswer};
 
 use crate::fault::HubFault;
@@ -64,7 +64,7 @@ impl Hub {
     }
 
     /// Joins a channel for a socket of the pass. It is answered `Full` where 8 others are joined.
-    pub fn join(
+    pub fn join_channel(
         &self,
         pass: &mut HubPass,
         hold: u64,
@@ -85,7 +85,7 @@ impl Hub {
     }
 
     /// Leaves a channel for a socket of the pass. It takes no memory.
-    pub fn leave(
+    pub fn leave_channel(
         &self,
         pass: &mut HubPass,
         hold: u64,

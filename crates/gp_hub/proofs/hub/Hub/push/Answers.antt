@@ -2,7 +2,7 @@ use Rattle.std.proofs.Common.{subst}
 use Rattle.gp_plain.specs.declared.event.Event.TheVariants.{Push}
 use Rattle.gp_plain.specs.Holds.{push}
 use Rattle.gp_hub.specs.Calls.{HasCalled}
-use Rattle.gp_hub.proofs.Sockets.{change_answers, has_changed}
+use Rattle.gp_hub.proofs.Changed.{change_answers, has_changed}
 use Rattle.gp_hub.proofs.hub.Hub.push.Goals as goal
 
 pub changed-requires : goal.changed-requires

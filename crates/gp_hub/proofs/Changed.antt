@@ -1,5 +1,5 @@
 -- What a change of a socket of one's own does.
-use Rattle.std.proofs.Common.{◌≡◌, ℕ, Bool, true, false, cond, List, [], refl, sym, ap, ◌∙◌, subst, Option, Some, None}
+use Rattle.std.proofs.Common.{◌≡◌, ℕ, Bool, true, false, cond, slice_get, List, [], refl, sym, ap, ◌∙◌, subst, Option, Some, None}
 use Rattle.gp_plain.specs.declared.event.Entry.{Entry}
 use Rattle.gp_plain.specs.declared.event.Event.{Event}
 use Rattle.gp_plain.specs.declared.event.Event.TheVariants as event
@@ -17,7 +17,7 @@ use Rattle.gp_plain.proofs.Soundness.{IsSound, are_sound, kind_is}
 use Rattle.gp_hub.specs.Passes.{HubView, IsSame}
 use Rattle.gp_hub.specs.Calls.{HasCalled}
 use Rattle.gp_hub.specs.Own.{Keeps}
-use Rattle.gp_hub.specs.Sockets.{HasChanged, IsNoSocket, change_event, reply_of}
+use Rattle.gp_hub.specs.Changes.{HasChanged, IsNoSocket, change_event, reply_of}
 use Rattle.gp_hub.specs.declared.sockets.ChangeReply.{ChangeReply}
 use Rattle.gp_hub.specs.declared.sockets.ChangeReply.TheVariants as answer
 use Rattle.gp_hub.proofs.Owned.{OwnCall, own_call, made, unmoved, same_share, keeps_on, spec_of, other_by}

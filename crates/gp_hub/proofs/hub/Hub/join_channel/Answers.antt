@@ -2,8 +2,8 @@ use Rattle.std.proofs.Common.{subst}
 use Rattle.gp_plain.specs.declared.event.Event.TheVariants.{Join}
 use Rattle.gp_plain.specs.Holds.{join}
 use Rattle.gp_hub.specs.Calls.{HasCalled}
-use Rattle.gp_hub.proofs.Sockets.{change_answers, has_changed}
-use Rattle.gp_hub.proofs.hub.Hub.join.Goals as goal
+use Rattle.gp_hub.proofs.Changed.{change_answers, has_changed}
+use Rattle.gp_hub.proofs.hub.Hub.join_channel.Goals as goal
 
 pub changed-requires : goal.changed-requires
 changed-requires c = change_answers c.args.pass.now c.call.new.pass c.args.hold (join c.args.channel) c.in-Ok.reply c.requires.keeps c.call.ensures.same c.in-Ok.ensures.ok
