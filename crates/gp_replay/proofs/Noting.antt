@@ -15,7 +15,7 @@ use Rattle.gp_plain.specs.declared.reply.Reply.{Reply}
 use Rattle.gp_plain.specs.declared.reply.Reply.TheVariants.{Attached, Full, Published, Repeat, Taken, Paged, Stale, Done, Foreign, Gone, OtherKind, Unknown}
 use Rattle.gp_plain.specs.Pieces.{piece_bytes, moved, position_after, batch, left, text}
 use Rattle.gp_plain.specs.Follow.{last_items, is_repeat}
-use Rattle.gp_plain.specs.Holds.{State, Held, pending, position, ended, log, start_of, position_of, terms_of, is_live, offered, settled_if, grew, begun, timed, taken_of, taken_from, paged_from, failed, let_go, end_or_detached, ends_now}
+use Rattle.gp_plain.specs.Holds.{State, Held, pending, position, ended, log, start_of, position_of, terms_of, is_live, offered, settled_if, grew, begun, timed, taken_of, taken_from, paged_from, failed, let_go, end_or_detached, ends_now, push, join, leave, changed_by}
 use Rattle.gp_plain.specs.History.{Past, page_of, has_place, if_kept, kept_at, refused_or, changed, served_by, with_item, with_hold, after_event, answer, pending_at, cause_at}
 use Rattle.gp_script.specs.Texts.{hold_text, piece_text, end_text}
 use Rattle.gp_replay.specs.declared.log.Log.{Log}
@@ -152,9 +152,9 @@ noted_law past (Page hold from to bytes then) all =
     let page = page_of from to bytes then in
     same_logs hold (paged_from (last_items past.published) page) past.holds (λ h r. log_kept (paged_from (last_items past.published) page h) r ∙ sym (log_kept h r))
 noted_law past (PageFailed hold) all = same_logs hold failed past.holds (λ h r. log_kept (failed h) r ∙ sym (log_kept h r))
-noted_law past (Push hold message) all = refl
-noted_law past (Join hold channel) all = refl
-noted_law past (Leave hold channel) all = refl
+noted_law past (Push hold message) all = same_logs hold (changed_by (push message)) past.holds (λ h r. log_kept (changed_by (push message) h) r ∙ sym (log_kept h r))
+noted_law past (Join hold channel) all = same_logs hold (changed_by (join channel)) past.holds (λ h r. log_kept (changed_by (join channel) h) r ∙ sym (log_kept h r))
+noted_law past (Leave hold channel) all = same_logs hold (changed_by (leave channel)) past.holds (λ h r. log_kept (changed_by (leave channel) h) r ∙ sym (log_kept h r))
 
 -- the log of a hold, from what is kept of it and what still waits
 

@@ -1,3 +1,4 @@
+pub mod Staying
 pub mod Counting
 pub mod Taking
 pub mod Looking

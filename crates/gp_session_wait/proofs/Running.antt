@@ -17,12 +17,13 @@ use Rattle.gp_plain.specs.declared.reply.EndCause.TheVariants.{Overflow, Retry, 
 use Rattle.gp_plain.specs.Items.{comes_after, is_on, goes_on_from}
 use Rattle.gp_plain.specs.Follow.{last_items, is_heard, without_first, going_on, follow_within, follow}
 use Rattle.gp_plain.specs.Pieces.{moved, moves_to, id_or, end_by, has_room, batch}
-use Rattle.gp_plain.specs.Holds.{Terms, State, Held, terms_of, is_live, run, marked, missed, gapped, can_ask, offered, shows_gap, run_for, chain_run, followers, answer_of, answer_or, ends_by, settled_if, grew, served, opened, caught_up, begun_state, timed, rest_of, end_or_detached}
+use Rattle.gp_plain.specs.Holds.{Terms, State, Held, terms_of, is_live, run, marked, missed, gapped, can_ask, offered, shows_gap, run_for, chain_run, followers, answer_of, answer_or, ends_by, settled_if, grew, served, opened, caught_up, begun_state, timed, rest_of, end_or_detached, after_page, after_failure, after_change}
 use Rattle.gp_plain.specs.History.{held, published}
 use Rattle.gp_plain.proofs.Windows.{drop_all}
 use Rattle.gp_plain.proofs.ChainLaw.{and_both, dead_run}
 use Rattle.gp_plain.proofs.Histories.{IsKept, in_each_history, all_at}
-use Rattle.gp_plain.proofs.Soundness.{Fits, taken_again, sound}
+use Rattle.gp_plain.proofs.Soundness.{Fits, taken_again, sound, HasTerms}
+use Rattle.gp_session_wait.proofs.Staying.{IsPoll, poll_page, poll_failure, poll_change}
 
 -- an item that goes on from an id on the channel
 pub record IsNext (items : List Item) (channel from : List ℕ) (item : Item) : Type 0 where
@@ -276,7 +277,7 @@ fresh_law items (Response (channel ∷ []) (Some start) deadline again) = fresh_
 fresh_law items (Response (channel ∷ other ∷ channels) prev deadline again) = tt
 fresh_law items Socket = tt
 
-serve_law : (items : List Item) (spec : HoldSpec) (taken : List Piece) (s : State) (item : Item) → s.terms ≡ terms_of spec → RunsBy items spec taken s
+serve_law : (items : List Item) (spec : HoldSpec) (taken : List Piece) (s : State) (item : Item) → HasTerms spec s.terms → RunsBy items spec taken s
     → RunsBy (items ++ item ∷ []) spec taken (served item (last_items items) (last_items (items ++ item ∷ [])) s)
 serve_law items (Stream opening channel prev link) taken s item t r = tt
 serve_law items (Plain opening channels) taken s item t r = tt
@@ -305,11 +306,34 @@ go_law items (Response (channel ∷ []) (Some start) deadline again) taken s cau
 go_law items (Response (channel ∷ other ∷ channels) prev deadline again) taken s cause r = tt
 go_law items Socket taken s cause r = tt
 
+-- pages, failures and changes of sockets leave a long poll
+
+stay_law : (items : List Item) (spec : HoldSpec) (taken : List Piece) (s t : State) → (IsPoll spec → t ≡ s) → RunsBy items spec taken s → RunsBy items spec taken t
+stay_law items (Stream opening channel prev link) taken s t same r = tt
+stay_law items (Plain opening channels) taken s t same r = tt
+stay_law items (Response [] prev deadline again) taken s t same r = tt
+stay_law items (Response (channel ∷ []) None deadline again) taken s t same r = tt
+stay_law items (Response (channel ∷ []) (Some start) deadline again) taken s t same r = subst (RunsBy items (Response (channel ∷ []) (Some start) deadline again) taken) (sym (same tt)) r
+stay_law items (Response (channel ∷ other ∷ channels) prev deadline again) taken s t same r = tt
+stay_law items Socket taken s t same r = tt
+
 law_kept : IsKept Law
 law_kept = record {
   fresh = λ items who spec. record { fits = sound.fresh items who spec; law = fresh_law items spec };
   serve = λ items item h f. record { fits = sound.serve items item h f.fits; law = serve_law items h.spec h.taken h.state item f.fits.terms_are f.law };
   take = λ items now h f. record { fits = sound.take items now h f.fits; law = take_law items h.spec h.taken now h.state f.law };
+  page = λ items page h f. record {
+    fits = sound.page items page h f.fits;
+    law = stay_law items h.spec h.taken h.state (after_page (last_items items) page h.state) (λ poll. poll_page (last_items items) page h.spec h.state poll f.fits.terms_are) f.law;
+  };
+  fail = λ items h f. record {
+    fits = sound.fail items h f.fits;
+    law = stay_law items h.spec h.taken h.state (after_failure h.state) (λ poll. poll_failure h.spec h.state poll f.fits.terms_are) f.law;
+  };
+  change = λ items change h f. record {
+    fits = sound.change items change h f.fits;
+    law = stay_law items h.spec h.taken h.state (after_change change h.state) (λ poll. poll_change change h.spec h.state poll f.fits.terms_are) f.law;
+  };
   go = λ items h f. record { fits = sound.go items h f.fits; law = go_law items h.spec h.taken h.state (end_or_detached h.state.ended) f.law };
 }
 
