@@ -13,7 +13,7 @@ use Rattle.gp_plain.specs.Holds.{State, RecoveryPage, is_live, is_stream, is_ahe
 use Rattle.gp_plain.specs.Growth.{Growth, IsWithin, HasRoomIn, no_growth, with_pieces, end_or, grown, last_id_of}
 use Rattle.gp_plain.specs.Plans.{Machine}
 use Rattle.gp_plain.proofs.Growing.{run_is, state_is, last_is}
-use Rattle.gp_hold_stream.specs.declared.stream.PagePlan.TheVariants.{Page}
+use Rattle.gp_hold_stream.specs.declared.page.PagePlan.TheVariants.{Page}
 use Rattle.gp_hold_stream.specs.Pages.{IsPagePlanned, with_marks}
 
 -- a live stream refuses no page

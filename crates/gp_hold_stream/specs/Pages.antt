@@ -7,8 +7,8 @@ use Rattle.gp_plain.specs.Plans.{Machine}
 use Rattle.gp_plain.specs.declared.item.Item.{Item}
 use Rattle.gp_plain.specs.declared.reply.Reply.{Reply}
 use Rattle.gp_plain.specs.declared.reply.Reply.TheVariants.{Paged, Stale as StaleReply}
-use Rattle.gp_hold_stream.specs.declared.stream.PagePlan.{PagePlan}
-use Rattle.gp_hold_stream.specs.declared.stream.PagePlan.TheVariants.{Page, Stale}
+use Rattle.gp_hold_stream.specs.declared.page.PagePlan.{PagePlan}
+use Rattle.gp_hold_stream.specs.declared.page.PagePlan.TheVariants.{Page, Stale}
 
 -- the marks behind a page: nothing is asked any more, and nothing came late
 abbrev pub with_marks : Bool → State → State

@@ -6,8 +6,10 @@
 //! where nothing is ahead any more. A page of a recovery is planned and carried out likewise, by calls of its own.
 #![tactic(auto)]
 
+mod page;
 mod plain;
 mod stream;
 
+pub use page::PagePlan;
 pub use plain::{PlainHold, PlainPlan};
-pub use stream::{PagePlan, StreamHold, StreamPlan};
+pub use stream::{StreamHold, StreamPlan};

@@ -1,18 +1,17 @@
-ghost use Rattle.std.specs.Prelude.{◌≡◌, ◌==◌, ◌&&◌, ◌||◌, ℕ, None, IfOk, OnOk, OnErr, cond, is_none, length, option_map, true};
+ghost use Rattle.std.specs.Prelude.{◌≡◌, ◌==◌, ◌&&◌, ℕ, None, IfOk, OnOk, OnErr, cond, is_none, length, option_map, true};
 ghost use Rattle.gp_plain.specs.Fit.{is_short_page};
 ghost use Rattle.gp_plain.specs.Follow.{is_heard};
 ghost use Rattle.gp_plain.specs.Growth.{IsWithin, grown, no_growth, with_pieces};
 ghost use Rattle.gp_plain.specs.History.{page_of};
-ghost use Rattle.gp_plain.specs.Holds.{after_failure, after_take, begins_at, begun_state, closed_behind, gapped, is_end, is_next, offered, page_run, settled, taken_of};
-ghost use Rattle.gp_plain.specs.Pieces.{id_or};
+ghost use Rattle.gp_plain.specs.Holds.{after_failure, after_take, begins_at, begun_state, closed_behind, gapped, offered, page_run, settled, taken_of};
 ghost use Rattle.gp_plain.specs.Tails.{ahead};
 ghost use Rattle.gp_plain.specs.Plans.{IsPlanned, IsPlanReady, grows, with_plan};
 ghost use Rattle.gp_plain.specs.declared.plan.Plan.TheVariants.{Grow};
 ghost use Rattle.gp_plain.specs.declared.event.HoldKind.TheVariants.{Stream};
-ghost use Rattle.gp_plain.specs.declared.reply.Piece.TheVariants.{Page as PagePiece};
 ghost use Rattle.gp_hold_stream.specs.Pages.{IsPagePlanned, IsPageReady, page_answer, with_marks, with_page_plan};
 ghost use Rattle.gp_hold_stream.specs.States.{stream_spec};
 
+use crate::page::{PagePlan, has_next, is_last, moved_from, page_piece, wants_behind};
 use gp_plain::{
     Body, EndCause, HoldKind, Item, ItemId, Name, Pending, Piece, Pieces, Plan, Reply, Run, Tail,
     Taken, Then,
@@ -25,28 +24,6 @@ const MISSES: u32 = 64;
 
 /// What an item is to do to a stream hold.
 pub type StreamPlan = Plan;
-
-/// What a page of a recovery is to do to a stream hold.
-///
-/// It is a type of its own, since a page, other than an item, sets the marks anew, may end the hold behind what it adds,
-/// and is answered otherwise where it is stale.
-#[derive(Drop)]
-pub enum PagePlan {
-    /// The page begins at the position. Its pieces are added, the position moves to the last id that they have, and the
-    /// hold that lives behind them is closed where the page is the last.
-    Page {
-        run: Run,
-        position: Option<ItemId>,
-        last: bool,
-        want: bool,
-    },
-    /// The page begins elsewhere. It adds nothing, and is answered by where it begins and by the position.
-    Stale {
-        from: ItemId,
-        position: ItemId,
-        want: bool,
-    },
-}
 
 /// A stream hold with a position on its channel.
 #[derive(Drop)]
@@ -86,56 +63,6 @@ fn wants<I: Tail>(
     ensures { result ≡ (is_none ended && link && ahead channel.now position.now (I.items window.now)) }
 {
     ended.is_none() && link && window.ahead(channel, position)
-}
-
-/// Whether a hold wants to ask for more behind a page: it has a link, and there is a next page, or it may have missed more
-/// and the window shows that there is more.
-fn wants_behind<I: Tail>(
-    link: bool,
-    next: bool,
-    missed_more: bool,
-    channel: &Name,
-    position: &ItemId,
-    window: &I,
-) -> bool
-    ensures { result ≡ (link && (next || (missed_more && ahead channel.now position.now (I.items window.now)))) }
-{
-    link && (next || (missed_more && window.ahead(channel, position)))
-}
-
-/// Whether the stream ends with the page.
-fn is_last(then: Then) -> bool
-    ensures { result ≡ is_end then }
-{
-    matches!(then, Then::End)
-}
-
-/// Whether there is a next page to ask for.
-fn has_next(then: Then) -> bool
-    ensures { result ≡ is_next then }
-{
-    matches!(then, Then::Next)
-}
-
-/// The piece of a page. It copies the bytes, once.
-fn page_piece(alloc: Global, from: &ItemId, to: &ItemId, bytes: &Body) -> Result<Piece, AllocError>
-    ensures { IfOk result (λ piece. piece ≡ PagePiece from.now to.now bytes.now) }
-{
-    Ok(Piece::Page {
-        from: from.copy(alloc)?,
-        to: to.copy(alloc)?,
-        bytes: bytes.copy(alloc)?,
-    })
-}
-
-/// The position, once it moved to an id, where there is one.
-fn moved_from<'p>(position: &'p Option<ItemId>, from: &'p ItemId) -> &'p ItemId
-    ensures { result.now ≡ id_or position.now from.now }
-{
-    match position {
-        Some(id) => id,
-        None => from,
-    }
 }
 
 /// The items in a row that were missed, once a run is added.

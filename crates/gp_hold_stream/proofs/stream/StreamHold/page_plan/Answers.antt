@@ -4,7 +4,7 @@ use Rattle.gp_plain.specs.History.{page_of}
 use Rattle.gp_plain.specs.Growth.{IsWithin, no_growth, with_pieces}
 use Rattle.gp_plain.specs.Plans.{Machine, machine}
 use Rattle.gp_plain.specs.Tails.{ahead}
-use Rattle.gp_hold_stream.specs.declared.stream.PagePlan.TheVariants.{Page}
+use Rattle.gp_hold_stream.specs.declared.page.PagePlan.TheVariants.{Page}
 use Rattle.gp_hold_stream.specs.Pages.{IsPagePlanned}
 use Rattle.gp_hold_stream.specs.States.{stream_state}
 use Rattle.gp_hold_stream.proofs.Pages.{page_planned}
