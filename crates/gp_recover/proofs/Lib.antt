@@ -1,1 +1,4 @@
 pub mod Faults
+pub mod Ending
+pub mod Going
+pub mod Gathering

@@ -4,7 +4,7 @@ ghost use Rattle.gp_instruct_json.specs.Kinds.{has_type};
 ghost use Rattle.gp_recover.specs.Pages.{IsPageOf};
 ghost use Rattle.gp_instruct.specs.Heads.{IsInstruct};
 ghost use Rattle.gp_instruct_json.specs.Answers.{IsFaultBy};
-ghost use Rattle.gp_recover.specs.Reading.{IsFault, IsHeadOpen, IsUnread, most_read};
+ghost use Rattle.gp_recover.specs.Reading.{IsFault, IsHeadOpen, IsOpen, IsUnread, most_read};
 
 use crate::page::{MOST_CONTENT, Page, PageFault, check_given, page_of};
 use gp_instruct::{Instruct, InstructFault, read_headers, read_next};
@@ -137,6 +137,7 @@ impl PageReader {
         from: ItemId,
     ) -> Result<PageReader, Unread>
         ensures ok { IfOk result (λ reader. reader ≡ record { head = head; channel = channel; from = from; content = [] }) }
+        ensures open { IfOk result IsOpen }
         ensures err { IfErr result (IsUnread head [] channel from) }
     {
         match check_head(alloc, &head, &channel) {
@@ -155,6 +156,7 @@ impl PageReader {
     #[tactic(auto, using(crate::proofs::Faults::long_part, crate::proofs::Faults::more_short))]
     pub fn add(self, part: Body) -> Result<PageReader, Unread>
         ensures ok { IfOk result (λ reader. reader ≡ record self { content = self.content ++ part }) }
+        ensures open { IfOk result IsOpen }
         ensures err { IfErr result (IsUnread self.head (self.content ++ part) self.channel self.from) }
     {
         if most_read(&self.head) - self.content.len() < part.len() {

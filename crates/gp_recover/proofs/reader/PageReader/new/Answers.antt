@@ -10,3 +10,8 @@ pub invariant_of-result : goal.invariant_of-result
 invariant_of-result c =
     subst (λ content. IsOpen (record { head = c.args.head; channel = c.args.channel; from = c.args.from; content = content })) (sym c.empty.ensures)
     (new_open c.args.head c.args.channel c.args.from (c.in-Ok.ensures.ok c.args.from))
+
+pub returns-in-Ok-clause-open : goal.returns-in-Ok-clause-open
+returns-in-Ok-clause-open c =
+    subst (λ content. IsOpen (record { head = c.args.head; channel = c.args.channel; from = c.args.from; content = content })) (sym c.empty.ensures)
+    (new_open c.args.head c.args.channel c.args.from (c.in-Ok.ensures.ok c.args.from))
