@@ -1,14 +1,13 @@
 -- How the talk of a recovery ends.
-use Rattle.std.proofs.Common.{◌≡◌, ◌≢◌, ℕ, ◌<◌, ◌≤◌, ◌⊎◌, inl, inr, Bool, true, false, List, [], ◌∷◌, ◌++◌, length, Option, Some, None, option_map, refl, sym, ap, ◌∙◌, subst, arith, append-nil, append_assoc}
-use Rattle.std.specs.Prelude.{IfSome, ⊤}
+use Rattle.std.proofs.Common.{◌≡◌, ℕ, inl, inr, List, [], ◌∷◌, ◌++◌, Option, Some, None, option_map, refl, sym, ap, ◌∙◌, subst, arith, append-nil, append_assoc}
+use Rattle.std.specs.Prelude.{IfSome}
 use Rattle.std.specs.declared.snapshot.Snapshot.{Snapshot}
 use Rattle.gp_plain.specs.declared.http.Response.{Response}
 use Rattle.gp_outside.specs.Dials.{DialTells, DialLater, after_hang_up}
 use Rattle.gp_outside.specs.Talks.{Talk, Talks, all_of, hung_up}
-use Rattle.gp_exchange.specs.Answers.{FaultRises, IsOverBy, Marked, ReadsBodyOf, Waits, head_after, head_of, is_marked, rank, Gives as ExchangeGives}
-use Rattle.gp_exchange.specs.Ends.{Ends, EndsBy as ExchangeEndsBy, EndsBody, Gave, Reads}
-use Rattle.gp_exchange.specs.Standing as exchange
-use Rattle.gp_exchange.specs.Standing.{StandsAt, part_of, IsTalk, HasTalk}
+use Rattle.gp_exchange.specs.Answers.{IsOverBy, Marked, head_of, is_marked, rank}
+use Rattle.gp_exchange.specs.Ends.{Ends, EndsBy as ExchangeEndsBy, EndsBody, Gave}
+use Rattle.gp_exchange.specs.Standing.{StandsAt, part_of}
 use Rattle.gp_exchange.specs.Views.{AskedView, ExchangeView}
 use Rattle.gp_exchange.specs.declared.answer.ExchangeFault.{ExchangeFault}
 use Rattle.gp_exchange.specs.declared.answer.Last.{Last as ExchangeLast}
@@ -18,15 +17,13 @@ use Rattle.gp_exchange.specs.declared.answer.Progress.TheVariants as progress
 use Rattle.gp_exchange.specs.declared.place.Over.{Over as ExchangeOver}
 use Rattle.gp_exchange.specs.declared.place.Place.{Place}
 use Rattle.gp_exchange.specs.declared.place.Place.TheVariants as place
-use Rattle.gp_exchange.proofs.Causes.{rose_from, waits_from}
-use Rattle.gp_exchange.proofs.Leading.{later_later, later_same, later_hung_up}
-use Rattle.gp_exchange.proofs.Talking.{talked}
+use Rattle.gp_exchange.proofs.Leading.{later_hung_up}
 use Rattle.gp_recover.specs.Pages.{IsFaultOf, IsPageOf}
-use Rattle.gp_recover.specs.Reading.{IsFault, IsOpen, IsUnread}
-use Rattle.gp_recover.specs.Outcomes.{EndsBy, FailsAt, FailsTalk, GivesPage, IsUnrefused, RefusesPage}
+use Rattle.gp_recover.specs.Reading.{IsUnread}
+use Rattle.gp_recover.specs.Outcomes.{EndsBy, FailsAt, IsUnrefused, RefusesPage}
 use Rattle.gp_recover.specs.Standing.{IsAt, IsOver}
-use Rattle.gp_recover.specs.Views.{RecoveryView, SoughtView, again, answer_at, asked_by, content_at, place_at, told}
-use Rattle.gp_recover.specs.Moves.{AsksContent, AsksHead, Gives, Goes, IsEnd, IsKept, IsRefusal, KeepsAll, Leads, On, Polls}
+use Rattle.gp_recover.specs.Views.{SoughtView, answer_at, asked_by, place_at, told}
+use Rattle.gp_recover.specs.Moves.{Gives, IsEnd, IsKept, IsRefusal, Leads, Polls}
 use Rattle.gp_recover.specs.declared.page.Page.{Page}
 use Rattle.gp_recover.specs.declared.page.PageFault.{PageFault}
 use Rattle.gp_recover.specs.declared.page.PageFault.TheVariants as fault
@@ -37,9 +34,7 @@ use Rattle.gp_recover.specs.declared.recovered.Last.TheVariants as last
 use Rattle.gp_recover.specs.declared.recovered.Recovered.{Recovered}
 use Rattle.gp_recover.specs.declared.recovered.Recovered.TheVariants as recovered
 use Rattle.gp_recover.specs.declared.stage.Next.{Next}
-use Rattle.gp_recover.specs.declared.stage.Over.{Over as Ending}
 use Rattle.gp_recover.specs.declared.stage.Stage.{Stage}
-use Rattle.gp_recover.specs.declared.stage.Stage.TheVariants.{Unbegun, Heading, Reading, Over, Lost}
 
 -- a poll of the exchange, by what is sought
 pub stands_by : (s : SoughtView) (x y : ExchangeView) (old now : DialTells) (p : Progress) → x.asked ≡ asked_by s → Polls x y old now p → (before : List Talk) (given : List ℕ)

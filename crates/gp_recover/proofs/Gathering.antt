@@ -1,18 +1,15 @@
 -- The content of an answer, part by part.
-use Rattle.std.proofs.Common.{◌≡◌, ℕ, ◌<◌, ◌≤◌, List, [], ◌++◌, length, Option, Some, None, refl, sym, ap, ◌∙◌, subst, arith, length-append}
+use Rattle.std.proofs.Common.{◌≡◌, ℕ, ◌<◌, List, [], ◌++◌, length, Option, Some, refl, sym, ap, ◌∙◌, subst, arith, length-append}
 use Rattle.gp_plain.specs.declared.http.Response.{Response}
 use Rattle.gp_outside.specs.Dials.{DialTells, after_hang_up}
-use Rattle.gp_outside.specs.Talks.{Talk}
-use Rattle.gp_exchange.specs.Answers.{ReadsBodyOf, head_of, rank}
-use Rattle.gp_exchange.specs.Standing.{StandsAt}
+use Rattle.gp_exchange.specs.Answers.{head_of, rank}
 use Rattle.gp_exchange.specs.Views.{ExchangeView}
 use Rattle.gp_exchange.specs.declared.answer.Progress.TheVariants as progress
 use Rattle.gp_exchange.specs.declared.place.Place.{Place}
-use Rattle.gp_exchange.specs.declared.place.Place.TheVariants as place
 use Rattle.gp_recover.specs.Outcomes.{IsUnrefused}
 use Rattle.gp_recover.specs.Reading.{IsOpen, IsUnread, ReadingView}
-use Rattle.gp_recover.specs.Views.{SoughtView, asked_by}
-use Rattle.gp_recover.specs.Moves.{Adds, AddsPart, AsksContent, AsksHead, Finishes, Gathers, IsEnd, IsFound, IsHeaded, IsRefusal, Leads, On, Polls, RefusesPart}
+use Rattle.gp_recover.specs.Views.{SoughtView}
+use Rattle.gp_recover.specs.Moves.{Adds, AddsPart, AsksContent, AsksHead, Finishes, Gathers, IsFound, IsHeaded, IsRefusal, Leads, On, Polls, RefusesPart}
 use Rattle.gp_recover.specs.declared.heading.Heading.{Heading as HeadHeading}
 use Rattle.gp_recover.specs.declared.reading.Gathered.{Gathered}
 use Rattle.gp_recover.specs.declared.reading.Gathered.TheVariants as gathered
@@ -76,10 +73,6 @@ module _ (s : SoughtView) (r : BodyReading) (y : ExchangeView) (old at : DialTel
   added_by now (gathered.More is) a = part_added now is a
   added_by now (gathered.Next next) f = part_refused now next f
 
-pub added : (s : SoughtView) (r : BodyReading) (y : ExchangeView) (old at now : DialTells) → AsksContent s r → (part : List ℕ) → Polls r.exchange y old at (progress.Part part)
-    → (result : Gathered) → Adds (record r { exchange = y }) part at now result → Gathers s r.exchange.place r.reader.content old now result
-added s r y old at now k part polls result a = added_by s r y old at k part polls now result a
-
 -- the content is whole
 module _ (s : SoughtView) (r : BodyReading) (y : ExchangeView) (old now : DialTells) (k : AsksContent s r) (polls : Polls r.exchange y old now progress.End) where
   found_so : (l : Last) → IsFound (record r { exchange = y }) l → EndsSo s r.exchange.place r.reader.content old now y l
@@ -89,10 +82,6 @@ module _ (s : SoughtView) (r : BodyReading) (y : ExchangeView) (old now : DialTe
 
   pub found_leads : (next : Next) → Finishes (record r { exchange = y }) next → Leads s r.exchange.place r.reader.content old now next
   found_leads next f = end_leads s r.exchange.place r.reader.content old now y f.last (found_so f.last f.found) next f.ends
-
-pub finished : (s : SoughtView) (r : BodyReading) (y : ExchangeView) (old now : DialTells) → AsksContent s r → Polls r.exchange y old now progress.End
-    → (next : Next) → Finishes (record r { exchange = y }) next → Leads s r.exchange.place r.reader.content old now next
-finished s r y old now k polls next f = found_leads s r y old now k polls next f
 
 -- the head came
 module _ (s : SoughtView) (h : HeadHeading) (y : ExchangeView) (old at : DialTells) (k : AsksHead s h) (head : Response) (polls : Polls h.exchange y old at (progress.Head head)) where

@@ -1,10 +1,10 @@
 -- How the moves of a recovery lead on from one another.
-use Rattle.std.proofs.Common.{◌≡◌, ℕ, ◌+◌, ◌-◌, ◌<◌, ◌≤◌, Bool, true, false, List, [], ◌∷◌, ◌++◌, length, Option, Some, None, refl, sym, ap, ◌∙◌, subst, arith, append-nil, length-append}
-use Rattle.std.specs.Prelude.{IfSome, ⊤}
+use Rattle.std.proofs.Common.{◌≡◌, ℕ, ◌<◌, ◌≤◌, Bool, true, false, List, [], ◌++◌, length, Option, Some, None, refl, sym, ap, ◌∙◌, subst, arith, append-nil}
+use Rattle.std.specs.Prelude.{IfSome}
 use Rattle.gp_plain.specs.declared.http.Response.{Response}
-use Rattle.gp_outside.specs.Dials.{DialTells, DialLater, after_hang_up}
-use Rattle.gp_outside.specs.Talks.{Talk, Talks, all_of, present_of}
-use Rattle.gp_exchange.specs.Answers.{FaultRises, IsOverBy, Marked, ReadsBodyOf, Waits, head_of, is_marked, rank}
+use Rattle.gp_outside.specs.Dials.{DialTells, DialLater}
+use Rattle.gp_outside.specs.Talks.{Talk, Talks, present_of}
+use Rattle.gp_exchange.specs.Answers.{FaultRises, IsOverBy, Marked, ReadsBodyOf, Waits, head_of, rank}
 use Rattle.gp_exchange.specs.Standing.{StandsAt, HasTalk, part_of}
 use Rattle.gp_exchange.specs.Views.{ExchangeView}
 use Rattle.gp_exchange.specs.declared.answer.ExchangeFault.{ExchangeFault}
@@ -18,10 +18,10 @@ use Rattle.gp_exchange.proofs.Causes.{rose_from, waits_from}
 use Rattle.gp_exchange.proofs.Leading.{later_later, later_same}
 use Rattle.gp_exchange.proofs.Talking.{talked}
 use Rattle.gp_instruct_json.specs.Kinds.{has_type}
-use Rattle.gp_recover.specs.Reading.{IsOpen, most_by, most_read}
-use Rattle.gp_recover.specs.Standing.{IsAt, IsOver, Stands, Talked}
-use Rattle.gp_recover.specs.Views.{RecoveryView, SoughtView, IsLive, again, answer_at, asked_by, content_at, place_at, place_of}
-use Rattle.gp_recover.specs.Moves.{Again, AsksContent, AsksHead, Gives, Goes, IsKept, Leads, On, Polls, Stays, StaysBy, StaysOver}
+use Rattle.gp_recover.specs.Reading.{most_by}
+use Rattle.gp_recover.specs.Standing.{IsAt}
+use Rattle.gp_recover.specs.Views.{RecoveryView, SoughtView, IsLive, answer_at, asked_by, place_at}
+use Rattle.gp_recover.specs.Moves.{AsksContent, AsksHead, Gives, Goes, IsKept, Leads, On, Polls, StaysOver}
 use Rattle.gp_recover.specs.declared.heading.Heading.{Heading as HeadHeading}
 use Rattle.gp_recover.specs.declared.page.PageFault.TheVariants as fault
 use Rattle.gp_recover.specs.declared.reading.Reading.{Reading as BodyReading}

@@ -1,5 +1,5 @@
 -- What every move of a recovery keeps, and where it leads.
-use Rattle.std.specs.Prelude.{ℕ, ◌≡◌, ◌<◌, ◌≤◌, Bool, List, ◌++◌, length, Some, IfSome, ⊤}
+use Rattle.std.specs.Prelude.{ℕ, ◌≡◌, ◌<◌, ◌≤◌, List, ◌++◌, length, Some, IfSome, ⊤}
 use Rattle.gp_plain.specs.declared.http.Response.{Response}
 use Rattle.gp_outside.specs.Dials.{DialTells, DialLater, after_hang_up}
 use Rattle.gp_outside.specs.Talks.{Talk}
@@ -10,11 +10,10 @@ use Rattle.gp_exchange.specs.declared.answer.Last.TheVariants as ended
 use Rattle.gp_exchange.specs.declared.answer.Progress.{Progress}
 use Rattle.gp_exchange.specs.declared.place.Place.{Place}
 use Rattle.gp_recover.specs.Pages.{IsFaultOf, IsPageOf}
-use Rattle.gp_recover.specs.Reading.{IsFault, IsOpen, IsUnread}
+use Rattle.gp_recover.specs.Reading.{IsOpen, IsUnread}
 use Rattle.gp_recover.specs.Standing.{IsAt}
 use Rattle.gp_recover.specs.Views.{RecoveryView, SoughtView, again, answer_at, asked_by, content_at, place_at, told}
 use Rattle.gp_recover.specs.declared.heading.Heading.{Heading as HeadHeading}
-use Rattle.gp_recover.specs.declared.page.PageFault.{PageFault}
 use Rattle.gp_recover.specs.declared.page.PageFault.TheVariants.{Exchange, Code, Instruct, Channel, TooLong}
 use Rattle.gp_recover.specs.declared.reader.Unread.{Unread}
 use Rattle.gp_recover.specs.declared.reader.Unread.TheVariants as unread

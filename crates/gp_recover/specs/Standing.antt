@@ -1,5 +1,5 @@
 -- How the talks that a dialer tells stand behind a recovery.
-use Rattle.std.specs.Prelude.{ℕ, ◌≡◌, ◌<◌, List, [], ◌∷◌, ◌++◌, None, IfSome}
+use Rattle.std.specs.Prelude.{◌≡◌, ◌<◌, List, [], ◌∷◌, ◌++◌, None, IfSome}
 use Rattle.gp_outside.specs.Dials.{DialTells}
 use Rattle.gp_outside.specs.Talks.{Talk, Talks}
 use Rattle.gp_exchange.specs.Answers.{rank}

@@ -43,6 +43,7 @@ impl Recovery {
     /// takes no memory.
     pub fn new(alloc: Global, to: Address, request: Body, channel: Name, from: ItemId) -> Recovery
         ensures sought { result.sought ≡ record { to = to; request = request; channel = channel; from = from } }
+        ensures kept { IsKept result.sought result.stage }
         ensures live { IsLive result.stage }
         ensures place { place_of result ≡ place.Unbegun request }
         ensures unbegun { (dial : DialTells) → IsIdle dial → IfSome dial.talks (λ talks. Stands talks.over result dial) }
@@ -81,6 +82,7 @@ impl Recovery {
     /// given.
     pub fn poll<D: Dial>(&mut self, dial: &mut D) -> Recovered
         ensures sought { self.new.sought ≡ self.old.sought }
+        ensures kept { IsKept self.new.sought self.new.stage }
         ensures later { DialLater (D.tells dial.old) (D.tells dial.new) }
         ensures answers { IsLive self.old.stage → result ≡ answer_at self.new.stage }
         ensures gives { IsLive self.old.stage → Gives (place_of self.old) (place_of self.new) (D.tells dial.old) (D.tells dial.new) result }

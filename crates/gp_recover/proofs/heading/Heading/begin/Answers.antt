@@ -1,4 +1,4 @@
-use Rattle.std.proofs.Common.{◌≡◌, List, ℕ, [], ap, sym, subst}
+use Rattle.std.proofs.Common.{List, ℕ, [], ap, sym, subst}
 use Rattle.gp_outside.specs.Dials.{DialTells}
 use Rattle.gp_recover.specs.Moves.{Leads}
 use Rattle.gp_recover.specs.Reading.{ReadingView}

@@ -1,15 +1,14 @@
-use Rattle.std.proofs.Common.{ap, sym, ◌∙◌, arith, refl, subst}
 use Rattle.gp_recover.proofs.Ending.{end_leads, fault_so, lost_so}
-use Rattle.gp_recover.proofs.Gathering.{added, finished, unrefused}
+use Rattle.gp_recover.proofs.Gathering.{added_by, found_leads, unrefused}
 use Rattle.gp_recover.proofs.reading.Reading.gather.Goals as goal
 
 pub returns-in-Part : goal.returns-in-Part
 returns-in-Part g c =
-    added c.args.sought.now c.args.self c.poll.new.exchange (g.D.Dial.tells c.args.dial.now) (g.D.Dial.tells c.poll.new.dial) (g.D.Dial.tells c.add.new.dial) c.requires c.in-Part.part c.in-Part.ensures c.add.result c.add.ensures
+    added_by c.args.sought.now c.args.self c.poll.new.exchange (g.D.Dial.tells c.args.dial.now) (g.D.Dial.tells c.poll.new.dial) c.requires c.in-Part.part c.in-Part.ensures (g.D.Dial.tells c.add.new.dial) c.add.result c.add.ensures
 
 pub returns-in-End : goal.returns-in-End
 returns-in-End g c =
-    finished c.args.sought.now c.args.self c.poll.new.exchange (g.D.Dial.tells c.args.dial.now) (g.D.Dial.tells c.poll.new.dial) c.requires c.in-End.ensures c.finish.result c.finish.ensures
+    found_leads c.args.sought.now c.args.self c.poll.new.exchange (g.D.Dial.tells c.args.dial.now) (g.D.Dial.tells c.poll.new.dial) c.requires c.in-End.ensures c.finish.result c.finish.ensures
 
 pub returns-in-Fault : goal.returns-in-Fault
 returns-in-Fault g c =

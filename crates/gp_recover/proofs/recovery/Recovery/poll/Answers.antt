@@ -1,5 +1,5 @@
-use Rattle.std.proofs.Common.{◌≡◌, ap, sym, subst, ◌∙◌}
-use Rattle.gp_recover.specs.Moves.{Goes, StaysOver}
+use Rattle.std.proofs.Common.{ap, sym, subst, ◌∙◌}
+use Rattle.gp_recover.specs.Moves.{StaysOver}
 use Rattle.gp_recover.specs.Standing.{Stands}
 use Rattle.gp_recover.specs.Views.{RecoveryView}
 use Rattle.gp_recover.specs.declared.stage.Stage.{Stage}
