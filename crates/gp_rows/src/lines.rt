@@ -1,8 +1,8 @@
 //! What good lines of a script say. A line that is none is an error, as where memory is wanting.
 ghost use Rattle.std.specs.Prelude.{◌≡◌, IfOk, true};
-ghost use Rattle.gp_plain.specs.Fit.{fits};
+ghost use Rattle.gp_plain.specs.Fit.{fits, is_short_page};
 
-use gp_plain::{Event, HoldSpec, Item};
+use gp_plain::{Body, Event, HoldSpec, Item, ItemId, Then};
 use gp_script::read_line;
 use std::alloc::{AllocError, Global};
 
@@ -35,6 +35,39 @@ pub fn spec(alloc: Global, line: &str) -> Result<HoldSpec, AllocError>
 {
     match event(alloc, line)? {
         Event::Attach { spec } => Ok(spec),
+        other => {
+            drop(other);
+            Err(AllocError)
+        }
+    }
+}
+
+/// A page of a recovery, for whichever hold.
+#[derive(Drop)]
+pub struct RecoveryPage {
+    pub from: ItemId,
+    pub to: ItemId,
+    pub bytes: Body,
+    pub then: Then,
+}
+
+/// The page that a line brings, of at most 262,144 bytes.
+pub fn page(alloc: Global, line: &str) -> Result<RecoveryPage, AllocError>
+    ensures { IfOk result (λ page. is_short_page page.bytes ≡ true) }
+{
+    match event(alloc, line)? {
+        Event::Page {
+            from,
+            to,
+            bytes,
+            then,
+            ..
+        } => Ok(RecoveryPage {
+            from,
+            to,
+            bytes,
+            then,
+        }),
         other => {
             drop(other);
             Err(AllocError)

@@ -2,9 +2,9 @@
 ghost use Rattle.std.specs.Prelude.{◌≡◌, ◌+◌, ◌<◌, OnOk};
 ghost use Rattle.gp_hub.specs.Own.{Keeps};
 
-use crate::lines::{event, item, spec};
+use crate::lines::{RecoveryPage, event, item, page, spec};
 use crate::shown::add_reply;
-use gp_hub::{Hub, HubFault, HubPass};
+use gp_hub::{FailedReply, Hub, HubFault, HubPass, PageReply};
 use gp_plain::Taken;
 use gp_replay::Registry;
 use std::alloc::{AllocError, Global};
@@ -186,7 +186,101 @@ fn hold(
     }
 }
 
-/// Publishes, and attaches holds.
+/// The line for what a page was answered.
+fn page_word(answer: &PageReply) -> &'static str {
+    match answer {
+        PageReply::Paged => "paged\n",
+        PageReply::Stale(_) => "stale\n",
+        PageReply::Gone(_) => "gone\n",
+        PageReply::OtherKind(_) => "other\n",
+    }
+}
+
+/// Adds what a page was answered.
+fn add_page(text: &mut String, answer: PageReply) -> Result<(), AllocError> {
+    let word = page_word(&answer);
+    drop(answer);
+    text.push_str(word)
+}
+
+/// The line for what was answered where a page can't be had.
+fn failed_word(answer: FailedReply) -> &'static str {
+    match answer {
+        FailedReply::Done => "failed\n",
+        FailedReply::Gone(_) => "gone\n",
+        FailedReply::OtherKind(_) => "other\n",
+    }
+}
+
+/// Ends a hold of the pass for want of a page, and lets it go.
+fn fail_and_detach(
+    text: &mut String,
+    hub: &Hub,
+    pass: &mut HubPass,
+    hold: u64,
+) -> Result<(), AllocError>
+    requires turn { pass.old.turn ≡ hub.now }
+    requires keeps { Keeps pass.old hold }
+    ensures { (pass.new.turn ≡ pass.old.turn) × (pass.new.parts ≡ pass.old.parts) }
+{
+    match hub.page_failed(pass, hold) {
+        Ok(answer) => {
+            text.push_str(failed_word(answer))?;
+            detach(text, hub, pass, hold)
+        }
+        Err(fault) => add_fault(text, fault),
+    }
+}
+
+/// Brings a page to a hold of the pass, and ends the hold for want of the next.
+fn page_and_fail(
+    alloc: Global,
+    text: &mut String,
+    hub: &Hub,
+    pass: &mut HubPass,
+    hold: u64,
+) -> Result<(), AllocError>
+    requires turn { pass.old.turn ≡ hub.now }
+    requires keeps { Keeps pass.old hold }
+    ensures { (pass.new.turn ≡ pass.old.turn) × (pass.new.parts ≡ pass.old.parts) }
+{
+    let RecoveryPage {
+        from,
+        to,
+        bytes,
+        then,
+    } = page(alloc, "page 0 a b next X")?;
+    match hub.page(pass, hold, from, to, bytes, then) {
+        Ok(answer) => {
+            add_page(text, answer)?;
+            fail_and_detach(text, hub, pass, hold)
+        }
+        Err(fault) => add_fault(text, fault),
+    }
+}
+
+/// Attaches the hold of a line, which gets a page and ends for want of the next.
+fn paged_hold(
+    alloc: Global,
+    text: &mut String,
+    hub: &Hub,
+    pass: &mut HubPass,
+    line: &str,
+) -> Result<(), AllocError>
+    requires { pass.old.turn ≡ hub.now }
+    ensures { (pass.new.turn ≡ pass.old.turn) × (pass.new.parts ≡ pass.old.parts) }
+{
+    match hub.attach(pass, spec(alloc, line)?) {
+        Ok(Some(hold)) => {
+            writeln!(text, "has {hold}")?;
+            page_and_fail(alloc, text, hub, pass, hold)
+        }
+        Ok(None) => text.push_str("full\n"),
+        Err(fault) => add_fault(text, fault),
+    }
+}
+
+/// Publishes, attaches holds, and brings one of them a page.
 fn own(alloc: Global, text: &mut String, hub: &Hub, pass: &mut HubPass) -> Result<(), AllocError>
     requires { pass.old.turn ≡ hub.now }
     ensures { (pass.new.turn ≡ pass.old.turn) × (pass.new.parts ≡ pass.old.parts) }
@@ -195,7 +289,8 @@ fn own(alloc: Global, text: &mut String, hub: &Hub, pass: &mut HubPass) -> Resul
     publish(alloc, text, hub, pass, "publish news b a X")?;
     hold(alloc, text, hub, pass, "attach stream news a link hi")?;
     publish(alloc, text, hub, pass, "close news c b")?;
-    hold(alloc, text, hub, pass, "attach stream news a link hi")
+    hold(alloc, text, hub, pass, "attach stream news a link hi")?;
+    paged_hold(alloc, text, hub, pass, "attach stream sport a link hi")
 }
 
 /// What a pass is answered by the calls of its own.
