@@ -1,8 +1,8 @@
 //! What good lines of a script say. A line that is none is an error, as where memory is wanting.
 ghost use Rattle.std.specs.Prelude.{◌≡◌, IfOk, true};
-ghost use Rattle.gp_plain.specs.Fit.{fits, is_short_page};
+ghost use Rattle.gp_plain.specs.Fit.{fits, fits_message, is_short_page};
 
-use gp_plain::{Body, Event, HoldSpec, Item, ItemId, Then};
+use gp_plain::{Body, Event, HoldSpec, Item, ItemId, Message, Name, Then};
 use gp_script::read_line;
 use std::alloc::{AllocError, Global};
 
@@ -35,6 +35,30 @@ pub fn spec(alloc: Global, line: &str) -> Result<HoldSpec, AllocError>
 {
     match event(alloc, line)? {
         Event::Attach { spec } => Ok(spec),
+        other => {
+            drop(other);
+            Err(AllocError)
+        }
+    }
+}
+
+/// The message that a line pushes.
+pub fn message(alloc: Global, line: &str) -> Result<Message, AllocError>
+    ensures { IfOk result (λ message. fits_message message ≡ true) }
+{
+    match event(alloc, line)? {
+        Event::Push { message, .. } => Ok(message),
+        other => {
+            drop(other);
+            Err(AllocError)
+        }
+    }
+}
+
+/// The channel that a line joins.
+pub fn channel(alloc: Global, line: &str) -> Result<Name, AllocError> {
+    match event(alloc, line)? {
+        Event::Join { channel, .. } => Ok(channel),
         other => {
             drop(other);
             Err(AllocError)

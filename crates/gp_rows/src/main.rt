@@ -12,6 +12,7 @@ mod owners;
 mod passes;
 mod plain;
 mod shown;
+mod sockets;
 mod texts;
 
 use case::Case;

@@ -4,6 +4,7 @@ ghost use Rattle.gp_hub.specs.Own.{Keeps};
 
 use crate::lines::{RecoveryPage, event, item, page, spec};
 use crate::shown::add_reply;
+use crate::sockets::socket;
 use gp_hub::{FailedReply, Hub, HubFault, HubPass, PageReply};
 use gp_plain::Taken;
 use gp_replay::Registry;
@@ -34,7 +35,7 @@ fn word(fault: HubFault) -> Option<&'static str> {
 }
 
 /// Adds why the hub served no event.
-fn add_fault(text: &mut String, fault: HubFault) -> Result<(), AllocError> {
+pub fn add_fault(text: &mut String, fault: HubFault) -> Result<(), AllocError> {
     match word(fault) {
         Some(word) => text.push_str(word),
         None => Err(AllocError),
@@ -130,7 +131,7 @@ fn add_taken(text: &mut String, taken: Taken) -> Result<(), AllocError> {
 }
 
 /// Lets a hold of the pass go.
-fn detach(text: &mut String, hub: &Hub, pass: &mut HubPass, hold: u64) -> Result<(), AllocError>
+pub fn detach(text: &mut String, hub: &Hub, pass: &mut HubPass, hold: u64) -> Result<(), AllocError>
     requires turn { pass.old.turn ≡ hub.now }
     requires keeps { Keeps pass.old hold }
     ensures { (pass.new.turn ≡ pass.old.turn) × (pass.new.parts ≡ pass.old.parts) }
@@ -280,7 +281,7 @@ fn paged_hold(
     }
 }
 
-/// Publishes, attaches holds, and brings one of them a page.
+/// Publishes, attaches holds, brings one of them a page, and another messages.
 fn own(alloc: Global, text: &mut String, hub: &Hub, pass: &mut HubPass) -> Result<(), AllocError>
     requires { pass.old.turn ≡ hub.now }
     ensures { (pass.new.turn ≡ pass.old.turn) × (pass.new.parts ≡ pass.old.parts) }
@@ -290,7 +291,8 @@ fn own(alloc: Global, text: &mut String, hub: &Hub, pass: &mut HubPass) -> Resul
     hold(alloc, text, hub, pass, "attach stream news a link hi")?;
     publish(alloc, text, hub, pass, "close news c b")?;
     hold(alloc, text, hub, pass, "attach stream news a link hi")?;
-    paged_hold(alloc, text, hub, pass, "attach stream sport a link hi")
+    paged_hold(alloc, text, hub, pass, "attach stream sport a link hi")?;
+    socket(alloc, text, hub, pass)
 }
 
 /// What a pass is answered by the calls of its own.
