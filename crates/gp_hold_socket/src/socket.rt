@@ -11,7 +11,9 @@ ghost use Rattle.gp_plain.specs.declared.item.Message.{Message as Sent};
 ghost use Rattle.gp_plain.specs.declared.reply.Piece.TheVariants.{Message as MessagePiece};
 ghost use Rattle.gp_hold_socket.specs.States.{socket_spec};
 
-use gp_plain::{EndCause, HoldKind, Item, ItemId, Message, Name, Names, Pending, Piece, Pieces, Run, Taken};
+use gp_plain::{
+    EndCause, HoldKind, Item, ItemId, Message, Name, Names, Pending, Piece, Pieces, Run, Taken,
+};
 use std::alloc::{AllocError, Global};
 use std::marker::Model;
 use std::mem;

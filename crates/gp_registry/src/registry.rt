@@ -210,12 +210,7 @@ impl Registry {
         fail_at(&mut self.holds, place)
     }
 
-    fn change(
-        &mut self,
-        who: u64,
-        hold: u64,
-        change: Change,
-    ) -> Result<Reply, (Change, AllocError)>
+    fn change(&mut self, who: u64, hold: u64, change: Change) -> Result<Reply, (Change, AllocError)>
         ensures ok { IfOk result (λ r. (r ≡ answered self.old who (event_of hold change)) × (self.new ≡ stepped self.old who (event_of hold change))) }
         ensures err { IfErr result (λ e. (e.0 ≡ change) × (self.new ≡ self.old)) }
         ensures due { OnErr result (refuses (answered self.old who (event_of hold change)) ≡ false) }
