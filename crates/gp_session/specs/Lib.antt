@@ -1,6 +1,7 @@
 pub mod Wires
 pub mod Seats
 pub mod Holding
+pub mod Paging
 pub mod Hearing
 pub mod Causes
 pub mod Lines

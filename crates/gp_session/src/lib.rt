@@ -6,13 +6,14 @@
 //!
 //! `specs/Wires.antt` has the rows of a link: the request, by what the bytes received are, and the bytes sent. `specs/Seats.antt`
 //! has the rows of a pass: what the session made, and what stays of it. `specs/Holding.antt` says what its calls for a hold of its own
-//! come to, and `specs/Hearing.antt` what is heard of a client whose answer is held open. `specs/Causes.antt` says why a session
+//! come to, `specs/Paging.antt` what the pages of a recovery do, and `specs/Hearing.antt` what is heard of a client whose answer is held open. `specs/Causes.antt` says why a session
 //! waits. It stands on `gp_outside`, `gp_outbox`, `gp_intake` and `gp_hub`, and has no handle.
 #![tactic(auto)]
 
 mod hearing;
 mod holding;
 mod line;
+mod paging;
 mod seat;
 mod watch;
 mod wire;
@@ -20,6 +21,7 @@ mod wire;
 pub use hearing::Heard;
 pub use holding::{Attached, LetGo, Took};
 pub use line::Line;
+pub use paging::{PageFailed, Paged, StreamPage};
 pub use seat::{Published, Seat};
 pub use watch::Watch;
 pub use wire::Wire;

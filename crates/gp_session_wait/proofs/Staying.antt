@@ -10,7 +10,7 @@ use Rattle.gp_plain.proofs.Paging.{page_other, failure_other, change_other}
 abbrev pub IsPoll : HoldSpec → Type 0
 IsPoll (Stream opening channel prev link) = ⊥
 IsPoll (Plain opening channels) = ⊥
-IsPoll (Response channels prev deadline again) = ⊤
+IsPoll (Response channels prev deadline again) = Unit {0}
 IsPoll Socket = ⊥
 
 no_stream : (spec : HoldSpec) (terms : Terms) → IsPoll spec → HasTerms spec terms → is_stream terms.kind ≡ false
