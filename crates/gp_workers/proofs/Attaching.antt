@@ -9,8 +9,8 @@ use Rattle.gp_plain.specs.declared.event.Entry.{Entry}
 use Rattle.gp_plain.specs.declared.event.Event.{Event}
 use Rattle.gp_plain.specs.declared.event.Event.TheVariants.{Attach, Publish, Take, Page, PageFailed, Push, Join, Leave, Detach}
 use Rattle.gp_plain.specs.Follow.{last_items, is_repeat}
-use Rattle.gp_plain.specs.Holds.{Held, begun, taken_from, let_go}
-use Rattle.gp_plain.specs.History.{Past, has_place, changed, served_by, with_item, with_hold, after_event, after, nothing, past_of, held}
+use Rattle.gp_plain.specs.Holds.{Held, push, join, leave, begun, taken_from, paged_from, failed, changed_by, let_go}
+use Rattle.gp_plain.specs.History.{Past, page_of, has_place, changed, served_by, with_item, with_hold, after_event, after, nothing, past_of, held}
 use Rattle.gp_workers.proofs.Working.{map_push}
 
 abbrev owners : List Held → List ℕ
@@ -43,11 +43,11 @@ one_owners who past (Attach spec) = attached_owners past (begun who spec (last_i
 one_owners who past (Publish item) = inl (published_owners past item (is_repeat (last_items past.published) item))
 one_owners who past (Take hold now) = inl (changed_owners who hold (taken_from now) past.holds (λ h. refl))
 one_owners who past (Detach hold) = inl (changed_owners who hold let_go past.holds (λ h. refl))
-one_owners who past (Page hold from to bytes then) = inl refl
-one_owners who past (PageFailed hold) = inl refl
-one_owners who past (Push hold message) = inl refl
-one_owners who past (Join hold channel) = inl refl
-one_owners who past (Leave hold channel) = inl refl
+one_owners who past (Page hold from to bytes then) = inl (changed_owners who hold (paged_from (last_items past.published) (page_of from to bytes then)) past.holds (λ h. refl))
+one_owners who past (PageFailed hold) = inl (changed_owners who hold failed past.holds (λ h. refl))
+one_owners who past (Push hold message) = inl (changed_owners who hold (changed_by (push message)) past.holds (λ h. refl))
+one_owners who past (Join hold channel) = inl (changed_owners who hold (changed_by (join channel)) past.holds (λ h. refl))
+one_owners who past (Leave hold channel) = inl (changed_owners who hold (changed_by (leave channel)) past.holds (λ h. refl))
 
 module _ (P : ℕ → Type 0) where
   record Adds (before now : List ℕ) : Type 0 where

@@ -9,8 +9,8 @@ use Rattle.gp_plain.specs.declared.event.Entry.{Entry}
 use Rattle.gp_plain.specs.declared.event.Event.{Event}
 use Rattle.gp_plain.specs.declared.event.Event.TheVariants.{Attach, Publish, Take, Page, PageFailed, Push, Join, Leave, Detach}
 use Rattle.gp_plain.specs.Follow.{last_items, is_repeat}
-use Rattle.gp_plain.specs.Holds.{Held, begun, taken_from, let_go}
-use Rattle.gp_plain.specs.History.{Past, has_place, changed, served_by, with_item, with_hold, after_event, after, nothing, past_of}
+use Rattle.gp_plain.specs.Holds.{Held, push, join, leave, begun, taken_from, paged_from, failed, changed_by, let_go}
+use Rattle.gp_plain.specs.History.{Past, page_of, has_place, changed, served_by, with_item, with_hold, after_event, after, nothing, past_of}
 use Rattle.gp_plain.specs.Others.{Share, share_of}
 use Rattle.gp_turn.specs.declared.range.Range.{Range}
 use Rattle.gp_turn.specs.Passes.{is_in, times_in}
@@ -66,11 +66,11 @@ one_owned r who past (Attach spec) out = attached_owned r past (begun who spec (
 one_owned r who past (Publish item) out = published_owned r past item (is_repeat (last_items past.published) item)
 one_owned r who past (Take hold now) out = changed_owned r who 0 hold (taken_from now) past.holds out (λ h. refl)
 one_owned r who past (Detach hold) out = changed_owned r who 0 hold let_go past.holds out (λ h. refl)
-one_owned r who past (Page hold from to bytes then) out = refl
-one_owned r who past (PageFailed hold) out = refl
-one_owned r who past (Push hold message) out = refl
-one_owned r who past (Join hold channel) out = refl
-one_owned r who past (Leave hold channel) out = refl
+one_owned r who past (Page hold from to bytes then) out = changed_owned r who 0 hold (paged_from (last_items past.published) (page_of from to bytes then)) past.holds out (λ h. refl)
+one_owned r who past (PageFailed hold) out = changed_owned r who 0 hold failed past.holds out (λ h. refl)
+one_owned r who past (Push hold message) out = changed_owned r who 0 hold (changed_by (push message)) past.holds out (λ h. refl)
+one_owned r who past (Join hold channel) out = changed_owned r who 0 hold (changed_by (join channel)) past.holds out (λ h. refl)
+one_owned r who past (Leave hold channel) out = changed_owned r who 0 hold (changed_by (leave channel)) past.holds out (λ h. refl)
 
 abbrev IsOut : Range → Entry → Type 0
 IsOut r entry = is_in entry.who r ≡ false
