@@ -38,19 +38,19 @@ pushed_owned : (r : Range) (k : ℕ) (hs : List Held) (h : Held) → is_in h.own
 pushed_owned r k [] h e = ap (λ (b : Bool). cond b ((k, share_of h) ∷ []) []) e
 pushed_owned r k (x ∷ xs) h e = ap (owned_if r k x) (pushed_owned r (k + 1) xs h e)
 
-changed_by : (r : Range) (k : ℕ) (f : Held → Held) (h : Held) (rest : List (ℕ × Share)) (kept own : Bool) → (own ≡ true → is_in h.owner r ≡ false) → (f h).owner ≡ h.owner
+changed_one : (r : Range) (k : ℕ) (f : Held → Held) (h : Held) (rest : List (ℕ × Share)) (kept own : Bool) → (own ≡ true → is_in h.owner r ≡ false) → (f h).owner ≡ h.owner
     → owned_if r k (cond kept (cond own (f h) h) h) rest ≡ owned_if r k h rest
-changed_by r k f h rest true true other same =
+changed_one r k f h rest true true other same =
     let out : is_in h.owner r ≡ false = other refl in
     let gone : is_in (f h).owner r ≡ false = ap (λ (n : ℕ). is_in n r) same ∙ out in
     ap (λ (b : Bool). cond b ((k, share_of (f h)) ∷ rest) rest) gone ∙ sym (ap (λ (b : Bool). cond b ((k, share_of h) ∷ rest) rest) out)
-changed_by r k f h rest true false other same = refl
-changed_by r k f h rest false own other same = refl
+changed_one r k f h rest true false other same = refl
+changed_one r k f h rest false own other same = refl
 
 changed_owned : (r : Range) (who k m : ℕ) (f : Held → Held) (hs : List Held) → is_in who r ≡ false → ((h : Held) → (f h).owner ≡ h.owner) → owned_from r k (changed who m f hs) ≡ owned_from r k hs
 changed_owned r who k m f [] out same = refl
 changed_owned r who k zero f (h ∷ hs) out same =
-    changed_by r k f h (owned_from r (k + 1) hs) (not h.released) (h.owner == who) (λ own. ap (λ (n : ℕ). is_in n r) (same_by h.owner who own) ∙ out) (same h)
+    changed_one r k f h (owned_from r (k + 1) hs) (not h.released) (h.owner == who) (λ own. ap (λ (n : ℕ). is_in n r) (same_by h.owner who own) ∙ out) (same h)
 changed_owned r who k (suc m) f (h ∷ hs) out same = ap (owned_if r k h) (changed_owned r who (k + 1) m f hs out same)
 
 attached_owned : (r : Range) (past : Past) (h : Held) (place : Bool) → is_in h.owner r ≡ false → owned_from r 0 (cond place (with_hold past h) past).holds ≡ owned_from r 0 past.holds
