@@ -9,8 +9,8 @@ use Rattle.gp_plain.specs.declared.event.Entry.{Entry}
 use Rattle.gp_plain.specs.declared.event.Event.{Event}
 use Rattle.gp_plain.specs.declared.event.Event.TheVariants.{Attach, Publish, Take, Page, PageFailed, Push, Join, Leave, Detach}
 use Rattle.gp_plain.specs.Follow.{last_items, is_repeat}
-use Rattle.gp_plain.specs.Holds.{Held, begun, taken_from, let_go}
-use Rattle.gp_plain.specs.History.{Past, has_place, changed, served_by, with_item, with_hold, after_event, after, nothing, held}
+use Rattle.gp_plain.specs.Holds.{Held, push, join, leave, begun, taken_from, paged_from, failed, changed_by, let_go}
+use Rattle.gp_plain.specs.History.{Past, page_of, has_place, changed, served_by, with_item, with_hold, after_event, after, nothing, held}
 use Rattle.gp_plain.specs.Others.{Share, share_of, shares, shares_from}
 use Rattle.gp_turn.specs.declared.range.Range.{Range}
 use Rattle.gp_turn.specs.Passes.{is_in, times_in, range}
@@ -66,11 +66,11 @@ one_more r n who past (Attach spec) one all = attached_one r n past (begun who s
 one_more r n who past (Publish item) one all = published_one r n past item (is_repeat (last_items past.published) item) all
 one_more r n who past (Take hold now) one all = changed_one r n who hold (taken_from now) past.holds (λ h. refl) all
 one_more r n who past (Detach hold) one all = changed_one r n who hold let_go past.holds (λ h. refl) all
-one_more r n who past (Page hold from to bytes then) one all = all
-one_more r n who past (PageFailed hold) one all = all
-one_more r n who past (Push hold message) one all = all
-one_more r n who past (Join hold channel) one all = all
-one_more r n who past (Leave hold channel) one all = all
+one_more r n who past (Page hold from to bytes then) one all = changed_one r n who hold (paged_from (last_items past.published) (page_of from to bytes then)) past.holds (λ h. refl) all
+one_more r n who past (PageFailed hold) one all = changed_one r n who hold failed past.holds (λ h. refl) all
+one_more r n who past (Push hold message) one all = changed_one r n who hold (changed_by (push message)) past.holds (λ h. refl) all
+one_more r n who past (Join hold channel) one all = changed_one r n who hold (changed_by (join channel)) past.holds (λ h. refl) all
+one_more r n who past (Leave hold channel) one all = changed_one r n who hold (changed_by (leave channel)) past.holds (λ h. refl) all
 
 all_one : (r : Range) (n : ℕ) (entries : List Entry) (past : Past) → All (IsOne r n) entries → OneOwners r n past.holds → OneOwners r n (fold after past entries).holds
 all_one r n [] past one all = all
