@@ -23,7 +23,7 @@ use Rattle.gp_recover.specs.Reading.{IsUnread}
 use Rattle.gp_recover.specs.Outcomes.{EndsBy, FailsAt, IsUnrefused, RefusesPage}
 use Rattle.gp_recover.specs.Standing.{IsAt, IsOver}
 use Rattle.gp_recover.specs.Views.{SoughtView, answer_at, asked_by, place_at, told}
-use Rattle.gp_recover.specs.Moves.{Gives, IsEnd, IsKept, IsRefusal, Leads, Polls}
+use Rattle.gp_recover.specs.Moves.{Gives, IsEnd, IsGiven, IsKept, IsRefusal, Leads, Polls}
 use Rattle.gp_recover.specs.declared.page.Page.{Page}
 use Rattle.gp_recover.specs.declared.page.PageFault.{PageFault}
 use Rattle.gp_recover.specs.declared.page.PageFault.TheVariants as fault
@@ -49,13 +49,14 @@ module _ (s : SoughtView) (was : Place) (given : List ℕ) (old now : DialTells)
     pub later : DialLater old now
     pub gives : Gives was y.place old now (told last)
     pub marked : Marked was y.place old now
+    pub given_is : IsGiven s last
     pub stands : (before : List Talk) → StandsAt (asked_by s) before given was old.talks → IfSome now.talks (IsOver s before y.place last)
 
   pub end_leads : EndsSo → (next : Next) → IsEnd y last next → Leads s was given old now next
   end_leads so next e =
       let at : place_at s next.stage ≡ y.place = ap (place_at s) e.stage ∙ ap (λ (x : ExchangeView). x.place) e.exchange in
       record {
-        kept = subst (IsKept s) (sym e.stage) tt;
+        kept = subst (IsKept s) (sym e.stage) (subst (IsGiven s) (sym e.ends) so.given_is);
         later = so.later;
         answers = e.recovered ∙ ap told (sym e.ends) ∙ sym (ap answer_at e.stage);
         gives = subst (λ (p : Place). Gives was p old now next.recovered) (sym at) (subst (λ (r : Recovered). Gives was y.place old now r) (sym e.recovered) so.gives);
@@ -97,6 +98,7 @@ module _ (s : SoughtView) (x y : ExchangeView) (given : List ℕ) (old now : Dia
     later = polls.later;
     gives = polls.gives;
     marked = polls.marked;
+    given_is = tt;
     stands = λ before stands. over_at s before given _ (ended.Fault f) y.place polls.gives.0 (fault_cause f (subst (λ (h : Option Response). IsUnrefused s h given) (sym polls.heads) unrefused)) now.talks
         (all_given (progress.Fault f) refl polls before stands);
   }
@@ -107,6 +109,7 @@ module _ (s : SoughtView) (x y : ExchangeView) (given : List ℕ) (old now : Dia
     later = polls.later;
     gives = tt;
     marked = polls.marked;
+    given_is = tt;
     stands = λ before stands. over_at s before given _ ended.NoMemory y.place polls.gives (λ o is ends received cause. tt) now.talks (all_given progress.NoMemory refl polls before stands);
   }
 
@@ -150,6 +153,7 @@ module _ (s : SoughtView) (x y : ExchangeView) (head : Response) (given : List �
     later = polls.later;
     gives = polls.gives.1;
     marked = polls.marked;
+    given_is = record { head = head; content = given; is = is };
     stands = whole_at (last.Got page) (λ received ends. record { head = head; content = given; ends = ends; page_is = is });
   }
 
@@ -158,11 +162,12 @@ module _ (s : SoughtView) (x y : ExchangeView) (head : Response) (given : List �
     later = polls.later;
     gives = refused_gives head given s.channel s.from x.place y.place old now f is;
     marked = polls.marked;
+    given_is = tt;
     stands = whole_at (last.Failed f) (λ received ends. refuses s y.place f received (record { head = head; content = given; gave = ends.gave; refused = is; decided = inl ends }));
   }
 
   pub whole_lost : EndsSo s x.place given old now y last.NoMemory
-  whole_lost = record { later = polls.later; gives = tt; marked = polls.marked; stands = whole_at last.NoMemory (λ received ends. tt) }
+  whole_lost = record { later = polls.later; gives = tt; marked = polls.marked; given_is = tt; stands = whole_at last.NoMemory (λ received ends. tt) }
 
 -- the talk is hung up while the body is read
 unmarked : (was p : Place) (old now : DialTells) → rank p ≡ 4 → Marked was p old now
@@ -199,6 +204,7 @@ module _ (s : SoughtView) (x y : ExchangeView) (head : Response) (given : List �
     later = later_hung_up old at later;
     gives = refused_gives head (given ++ []) s.channel s.from was y.place old (after_hang_up at) f (unread []);
     marked = unmarked was y.place old (after_hang_up at) four;
+    given_is = tt;
     stands = λ before stands. hung_at s before head given (last.Failed f) y.place four has
         (λ more received gave. refuses s y.place f received (record {
           head = head;
@@ -216,6 +222,7 @@ module _ (s : SoughtView) (x y : ExchangeView) (head : Response) (given : List �
     later = later_hung_up old at later;
     gives = tt;
     marked = unmarked was y.place old (after_hang_up at) four;
+    given_is = tt;
     stands = λ before stands. hung_at s before head given last.NoMemory y.place four has (λ more received gave. tt) at.talks (comes before stands);
   }
 

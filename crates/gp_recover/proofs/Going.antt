@@ -202,12 +202,12 @@ lost_leads s d = record {
 }
 
 module _ (s : SoughtView) (old now : DialTells) (next : Next) where
-  pub goes_kept : (t : Stage) → Goes s t old now next → IsKept s next.stage
-  goes_kept (Unbegun u) g = g.kept
-  goes_kept (Heading h) g = g.kept
-  goes_kept (Reading r) g = g.kept
-  goes_kept (Over o) g = subst (IsKept s) (sym g.same) tt
-  goes_kept Lost g = subst (IsKept s) (sym g.same) tt
+  pub goes_kept : (t : Stage) → IsKept s t → Goes s t old now next → IsKept s next.stage
+  goes_kept (Unbegun u) k g = g.kept
+  goes_kept (Heading h) k g = g.kept
+  goes_kept (Reading r) k g = g.kept
+  goes_kept (Over o) k g = subst (IsKept s) (sym g.same) k
+  goes_kept Lost k g = subst (IsKept s) (sym g.same) tt
 
   pub goes_later : (t : Stage) → Goes s t old now next → DialLater old now
   goes_later (Unbegun u) g = g.later

@@ -14,6 +14,7 @@ use Rattle.gp_recover.specs.Reading.{IsOpen, IsUnread}
 use Rattle.gp_recover.specs.Standing.{IsAt}
 use Rattle.gp_recover.specs.Views.{RecoveryView, SoughtView, again, answer_at, asked_by, content_at, place_at, told}
 use Rattle.gp_recover.specs.declared.heading.Heading.{Heading as HeadHeading}
+use Rattle.gp_recover.specs.declared.page.Page.{Page}
 use Rattle.gp_recover.specs.declared.page.PageFault.TheVariants.{Exchange, Code, Instruct, Channel, TooLong}
 use Rattle.gp_recover.specs.declared.reader.Unread.{Unread}
 use Rattle.gp_recover.specs.declared.reader.Unread.TheVariants as unread
@@ -54,11 +55,22 @@ pub record AsksContent (s : SoughtView) (reading : BodyReading) : Type 0 where
   pub head : head_of reading.exchange.place ≡ Some reading.reader.head
   pub unrefused : IsOpen reading.reader
 
+-- the page that was given was read of an answer
+pub record IsAnswered (s : SoughtView) (page : Page) : Type 0 where
+  pub head : Response
+  pub content : List ℕ
+  pub is : IsPageOf head content s.channel s.from page
+
+abbrev pub IsGiven : SoughtView → Last → Type 0
+IsGiven s (last.Got page) = IsAnswered s page.value
+IsGiven s (last.Failed fault) = ⊤
+IsGiven s last.NoMemory = ⊤
+
 abbrev pub IsKept : SoughtView → Stage → Type 0
 IsKept s (Unbegun unbegun) = KeepsAll s unbegun
 IsKept s (Heading heading) = AsksHead s heading
 IsKept s (Reading reading) = AsksContent s reading
-IsKept s (Over over) = ⊤
+IsKept s (Over over) = IsGiven s over.last
 IsKept s Lost = ⊤
 
 -- ---- the cause of an answer

@@ -67,7 +67,7 @@ impl Recovery {
         }
     }
 
-    /// Whether the recovery is over: its talk is hung up, and the dialer isn't called any more.
+    /// Whether the recovery is over: its talk is hung up, where one began, and the dialer isn't called any more.
     pub fn is_over(&self) -> bool
         ensures { result ≡ is_over self.now.stage }
     {

@@ -1,9 +1,11 @@
 use crate::client::forwarded;
-use crate::shown::{is_last, push_progress};
+use crate::run::Run;
+use crate::watched::WatchedDial;
 use gp_escapes::{push_escaped, unescaped};
 use gp_exchange::Exchange;
 use gp_outside::{Answers, MemDial, Turn, Turns};
-use gp_plain::{Address, Body};
+use gp_plain::{Address, Body, ItemId, Name};
+use gp_recover::Recovery;
 use std::alloc::{AllocError, Global};
 
 /// The room of the dialer, in bytes.
@@ -17,11 +19,12 @@ const SHORT: &str = "GET / HTTP/1.1\\r\\n\\r\\n";
 
 /// The kinds of the lines of a case: the request, the origin's answer, and what each call on the dialer does in turn.
 ///
-/// They are `request TEXT`, without which it is a short GET, or `client TEXT`, the head of a client's request that is forwarded; `answer TEXT`, whose texts are joined; `method WORD`, without which it
-/// is GET; `limit NUMBER`, without which there is none; and `connects TURN`, `reads TURN` and `writes TURN`, with a number of bytes, `wait`
-/// or `fail`, and behind it how often, which is once where it isn't said.
-const KINDS: [&str; 8] = [
-    "request", "client", "answer", "method", "limit", "connects", "reads", "writes",
+/// They are `request TEXT`, without which it is a short GET, or `client TEXT`, the head of a client's request that is forwarded; `answer TEXT`,
+/// whose texts are joined; `method WORD`, without which it is GET; `limit NUMBER`, without which there is none; `page CHANNEL ID`, with which a
+/// recovery asks for the page behind an id of a channel, in place of an exchange; and `connects TURN`, `reads TURN` and `writes TURN`, with a
+/// number of bytes, `wait` or `fail`, and behind it how often, which is once where it isn't said.
+const KINDS: [&str; 9] = [
+    "request", "client", "answer", "method", "limit", "page", "connects", "reads", "writes",
 ];
 
 /// The first word of a line, and what stands behind its space.
@@ -124,26 +127,25 @@ fn exchange(alloc: Global, lines: &str) -> Result<Exchange, AllocError> {
     Ok(Exchange::new(alloc, to, request, method, limit))
 }
 
-/// Adds what a poll gave. It says whether the exchange is over.
-fn push_poll(
-    text: &mut String,
-    exchange: &mut Exchange,
-    dial: &mut MemDial,
-) -> Result<bool, AllocError> {
-    let progress = exchange.poll(dial);
-    push_progress(text, &progress)?;
-    Ok(is_last(&progress))
+/// The recovery of a page, where a channel and an id are told.
+fn recovery(alloc: Global, lines: &str, page: &str) -> Result<Option<Recovery>, AllocError> {
+    let (channel, from) = cut(page);
+    let (Ok(channel), Ok(from)) = (
+        Name::new(alloc, channel.as_bytes()),
+        ItemId::new(alloc, from.as_bytes()),
+    ) else {
+        return Ok(None);
+    };
+    let to = origin(alloc)?;
+    let request = Body::from_vec(request(alloc, lines)?);
+    Ok(Some(Recovery::new(alloc, to, request, channel, from)))
 }
 
 /// Adds the answers of all polls, the last of them twice.
-fn push_polls(
-    text: &mut String,
-    exchange: &mut Exchange,
-    dial: &mut MemDial,
-) -> Result<(), AllocError> {
+fn push_polls(text: &mut String, run: &mut Run, dial: &mut WatchedDial) -> Result<(), AllocError> {
     let mut lasts: u8 = 0;
     for _poll in 0..POLLS {
-        if push_poll(text, exchange, dial)? {
+        if run.push_poll(text, dial)? {
             lasts = lasts.saturating_add(1);
         }
         if lasts == 2 {
@@ -153,14 +155,52 @@ fn push_polls(
     Ok(())
 }
 
+/// Adds how many talks there are, and whether the last of them is over.
+fn push_talks(text: &mut String, dial: &WatchedDial) -> Result<(), AllocError> {
+    let ending = if dial.in_talk() {
+        "not hung up"
+    } else {
+        "hung up"
+    };
+    writeln!(text, "talks {}, {ending}", dial.talks())
+}
+
+fn push_exchange(
+    alloc: Global,
+    text: &mut String,
+    dial: &mut WatchedDial,
+    lines: &str,
+) -> Result<(), AllocError> {
+    let mut run = Run::Exchange(exchange(alloc, lines)?);
+    push_polls(text, &mut run, dial)
+}
+
+fn push_recovery(
+    alloc: Global,
+    text: &mut String,
+    dial: &mut WatchedDial,
+    lines: &str,
+    page: &str,
+) -> Result<(), AllocError> {
+    match recovery(alloc, lines, page)? {
+        Some(recovery) => {
+            push_polls(text, &mut Run::Recovery(recovery), dial)?;
+            push_talks(text, dial)
+        }
+        None => text.push_str("not a channel and an id\n"),
+    }
+}
+
 fn push_talk(
     alloc: Global,
     text: &mut String,
-    dial: &mut MemDial,
+    dial: &mut WatchedDial,
     lines: &str,
 ) -> Result<(), AllocError> {
-    let mut exchange = exchange(alloc, lines)?;
-    push_polls(text, &mut exchange, dial)
+    match first(lines, "page") {
+        Some(page) => push_recovery(alloc, text, dial, lines, page),
+        None => push_exchange(alloc, text, dial, lines),
+    }
 }
 
 fn push_sent(text: &mut String, sent: Option<&[u8]>) -> Result<(), AllocError> {
@@ -188,7 +228,7 @@ fn push_others(text: &mut String, lines: &str) -> Result<(), AllocError> {
 /// Adds the answers of all polls of a case, and what was sent.
 pub fn push_case(alloc: Global, text: &mut String, lines: &str) -> Result<(), AllocError> {
     push_others(text, lines)?;
-    let mut dial = dial(alloc, lines)?;
+    let mut dial = WatchedDial::new(dial(alloc, lines)?);
     push_talk(alloc, text, &mut dial, lines)?;
     push_sent(text, dial.sent(0))
 }

@@ -42,7 +42,8 @@ fn plan_fault(fault: BodyFault) -> &'static str {
     }
 }
 
-fn push_fault(text: &mut String, fault: ExchangeFault) -> Result<(), AllocError> {
+/// Adds why an exchange failed.
+pub fn push_fault(text: &mut String, fault: ExchangeFault) -> Result<(), AllocError> {
     match fault {
         ExchangeFault::Dial => text.push_str("fault dial"),
         ExchangeFault::Head => text.push_str("fault head"),
