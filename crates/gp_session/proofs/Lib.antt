@@ -5,3 +5,4 @@ pub mod Pages
 pub mod Listening
 pub mod Moving
 pub mod Lining
+pub mod Pursuing

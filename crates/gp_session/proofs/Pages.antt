@@ -1,12 +1,12 @@
 -- What a page, and the news that it can't be had, do to a session's pass.
 use Rattle.std.proofs.Common.{◌≡◌, ℕ, ◌+◌, ◌%◌, Result, Ok, Err, refl, subst, sym, inr, inl, arith}
-use Rattle.std.specs.Prelude.{IfOk, IfErr, OnErr, ⊤}
+use Rattle.std.specs.Prelude.{IfOk, IfErr, OnErr}
 use Rattle.gp_plain.specs.declared.event.Event.TheVariants.{PageFailed as PageFailedEvent}
 use Rattle.gp_hub.specs.declared.fault.HubFault.{HubFault}
 use Rattle.gp_hub.specs.declared.fault.HubFault.TheVariants as hub
 use Rattle.gp_hub.specs.declared.own.PageReply.{PageReply}
 use Rattle.gp_hub.specs.declared.own.FailedReply.{FailedReply}
-use Rattle.gp_hub.specs.Passes.{HubView, IsSame}
+use Rattle.gp_hub.specs.Passes.{IsSame}
 use Rattle.gp_hub.specs.Calls.{HasCause}
 use Rattle.gp_hub.specs.Own.{HasPaged, HasFailed, page_reply, failed_reply}
 use Rattle.gp_session.specs.declared.paging.StreamPage.{StreamPage}

@@ -5,4 +5,5 @@ pub mod Paging
 pub mod Hearing
 pub mod Causes
 pub mod Lines
+pub mod Seeking
 pub mod Watches

@@ -6,8 +6,10 @@
 //!
 //! `specs/Wires.antt` has the rows of a link: the request, by what the bytes received are, and the bytes sent. `specs/Seats.antt`
 //! has the rows of a pass: what the session made, and what stays of it. `specs/Holding.antt` says what its calls for a hold of its own
-//! come to, `specs/Paging.antt` what the pages of a recovery do, and `specs/Hearing.antt` what is heard of a client whose answer is held open. `specs/Causes.antt` says why a session
-//! waits. It stands on `gp_outside`, `gp_outbox`, `gp_intake` and `gp_hub`, and has no handle.
+//! come to, `specs/Paging.antt` what the pages of a recovery do, and `specs/Hearing.antt` what is heard of a client whose answer is
+//! held open. `specs/Lines.antt` has the row of the talks with origins, and `specs/Seeking.antt` that of the talk of a recovery.
+//! `specs/Causes.antt` says why a session waits. It stands on `gp_outside`, `gp_outbox`, `gp_intake`, `gp_exchange`, `gp_recover` and
+//! `gp_hub`, and has no handle.
 #![tactic(auto)]
 
 mod hearing;
@@ -15,6 +17,7 @@ mod holding;
 mod line;
 mod paging;
 mod seat;
+mod seeking;
 mod watch;
 mod wire;
 

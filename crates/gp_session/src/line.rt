@@ -13,7 +13,7 @@ use std::snapshot::Snapshot;
 /// A dialer of origins.
 #[derive(Drop)]
 pub struct Line<D: Dial> {
-    dial: D,
+    pub(crate) dial: D,
     /// The dialer as the session began with it, which contracts alone remember.
     start: Snapshot<D>,
 }

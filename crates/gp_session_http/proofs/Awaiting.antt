@@ -479,8 +479,8 @@ push_held : (s : SeatView) (turns : List Turn) (turn : Turn) → AreHeld s turns
 push_held s [] turn h one = one
 push_held s (t ∷ ts) turn h one = (h.0, push_held s ts turn h.1 one)
 
-aims_begun : (aims : List Aim) (x : ExchangeView) → rank x.place ≡ 5 → begun_with aims x ≡ aims ++ aim_of x.asked ∷ []
-aims_begun aims x five = ap (λ (n : ℕ). more_if n aims (aim_of x.asked)) five
+aims_begun : (aims : List Aim) (x : ExchangeView) (given : List ℕ) → rank x.place ≡ 5 → begun_with aims (said x given) ≡ aims ++ aim_of (said x given) ∷ []
+aims_begun aims x given five = ap (λ (n : ℕ). more_if n aims (aim_of (said x given))) five
 
 some_same : {A : Type 0} {x y : A} → Some x ≡ Some y → x ≡ y
 some_same e = cc
@@ -576,8 +576,8 @@ module _ (v : LiveView) (p : Poll) (kept_again : Option Asked) (r : Repeat) (h :
         let x = stage.exchange in
         let here : x ≡ record { asked = x.asked; place = place.Unbegun x.asked.request } = ap (λ (q : Place). record { asked = x.asked; place = q }) begun.begins.unbegun in
         let over_now = over_rank _ p.exchange.value.place heard.answers.over in
-        let aims : begun_with (aims_of heard.turns) p.exchange.value ≡ aims_of (heard.turns ++ this_turn ∷ []) =
-        aims_begun (aims_of heard.turns) p.exchange.value over_now ∙ sym (map-append (λ (t : Turn). aim_of t.exchange.asked) heard.turns (this_turn ∷ [])) in
+        let aims : begun_with (aims_of heard.turns) (said p.exchange.value heard.content) ≡ aims_of (heard.turns ++ this_turn ∷ []) =
+        aims_begun (aims_of heard.turns) p.exchange.value heard.content over_now ∙ sym (map-append (λ (t : Turn). aim_of (said t.exchange t.content)) heard.turns (this_turn ∷ [])) in
         let spec_same : h.over.attached.spec ≡ missed.retried.share.spec =
         same_spec p h.over.moment h.over.attached.spec missed.retried.share.spec h.over.attached.spec_is (subst (PollsFor p h.over.moment) (sym missed.retried.ended.spec_is) h.over.poll_is.spec_is) in
         let specs : specs_before heard.turns ++ h.over.attached.spec ∷ [] ≡ specs_before (heard.turns ++ this_turn ∷ []) =

@@ -82,9 +82,9 @@ pub data Behind (c : Charter) : List Turn → Asked → Type 0 where
   first : (asked : Asked) → asked.repeats ≡ 0 → asked.last ≡ None → Behind c [] asked
   again : (turns : List Turn) (turn : Turn) (asked : Asked) → Behind c turns turn.asked → IsTurn c turn → IsRepeatOf turn asked → Behind c (turns ++ turn ∷ []) asked
 
--- the talks of turns have these aims, and their holds were attached so
+-- the talks of turns have these aims, each with the answer that was read of it, and their holds were attached so
 abbrev pub aims_of : List Turn → List Aim
-aims_of turns = map (λ (turn : Turn). aim_of turn.exchange.asked) turns
+aims_of turns = map (λ (turn : Turn). aim_of (record { exchange = turn.exchange; given = turn.content })) turns
 
 abbrev pub specs_before : List Turn → List HoldSpec
 specs_before turns = map (λ (turn : Turn). turn.share.spec) turns
