@@ -1,0 +1,9 @@
+//! A hold asks for one page of its recovery at a time.
+//!
+//! `specs/Asking.antt` says when a hold of a pass has asked for a page that hasn't come, and has the law that no Take asks for
+//! another until then. It stands on `gp_plain`, `gp_turn` and `gp_hub`, and has no handle.
+#![tactic(auto)]
+
+mod law;
+
+pub use law::asking_law;
