@@ -4,5 +4,4 @@ pub mod Opening
 pub mod Parting
 pub mod Putting
 pub mod Turning
-pub mod Listening
 pub mod Following

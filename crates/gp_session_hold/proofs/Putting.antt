@@ -15,7 +15,7 @@ use Rattle.gp_plain.specs.Reports.{tally_of, payload_of}
 use Rattle.gp_answer.specs.Frames.{framed_by, last_chunk}
 use Rattle.gp_session.specs.Wires.{WireView}
 use Rattle.gp_session_hold.specs.Rows.{KeptView}
-use Rattle.gp_session_hold.specs.Puts.{payload_bytes, framed, PutsBehind, PutsPart, PutsAs, PutsNext, Counts, PutsSome, SendsAs, Sends, given_by}
+use Rattle.gp_session_hold.specs.Puts.{payload_bytes, framed, PutsBehind, PutsPart, PutsAs, PutsNext, Counts, PutsSome, SendsAs, Sends, given_by, missing_by}
 use Rattle.gp_session_hold.specs.declared.sending.Given.{Given}
 use Rattle.gp_session_hold.specs.declared.sending.Given.TheVariants as given
 
@@ -122,21 +122,30 @@ some_pieces : (ps : List Piece) → false ≡ (length ps == 0) → ps ≢ []
 some_pieces [] e = λ none. absurd (let f : false ≡ true = e in (cc))
 some_pieces (p ∷ ps) e = λ none. cc
 
-says_open : (v w : WireView) (chunked : Bool) (taken : Taken) (none room : Bool) → none ≡ (length taken.pieces == 0) → taken.ended ≡ None → PutsAs v w (framed chunked taken.pieces) room → SendsAs v w chunked taken (given_by none room)
-says_open v w chunked taken true true none open_is puts =
+says_open : (v w : WireView) (chunked : Bool) (taken : Taken) (none room : Bool) → none ≡ (length taken.pieces == 0) → taken.recover ≡ None → taken.ended ≡ None → PutsAs v w (framed chunked taken.pieces) room → SendsAs v w chunked taken (given_by none room)
+says_open v w chunked taken true true none nothing open_is puts =
     let empty : taken.pieces ≡ [] = no_pieces taken.pieces none in
-    (puts_same v w (subst (λ (ps : List Piece). PutsBehind v w (framed chunked ps)) empty puts), empty, open_is)
-says_open v w chunked taken true false none open_is puts =
+    (puts_same v w (subst (λ (ps : List Piece). PutsBehind v w (framed chunked ps)) empty puts), empty, nothing, open_is)
+says_open v w chunked taken true false none nothing open_is puts =
     let empty : taken.pieces ≡ [] = no_pieces taken.pieces none in
     let part : PutsPart v w [] = subst (λ (ps : List Piece). PutsPart v w (framed chunked ps)) empty puts in
-    (puts_same v w (subst (PutsBehind v w) (no_part part.part part.is_part) part.puts), empty, open_is)
-says_open v w chunked taken false true none open_is puts = (puts, some_pieces taken.pieces none, open_is)
-says_open v w chunked taken false false none open_is puts = (part_more v w (framed chunked taken.pieces) (last_chunk chunked None) puts, open_is)
+    (puts_same v w (subst (PutsBehind v w) (no_part part.part part.is_part) part.puts), empty, nothing, open_is)
+says_open v w chunked taken false true none nothing open_is puts = (puts, some_pieces taken.pieces none, nothing, open_is)
+says_open v w chunked taken false false none nothing open_is puts = (part_more v w (framed chunked taken.pieces) (last_chunk chunked None) puts, open_is)
 
-pub sends_open : (v w : WireView) (chunked : Bool) (h k : KeptView) (taken : Taken) (none room : Bool) (answer : Given) → Counts h k taken.pieces → none ≡ (length taken.pieces == 0) → taken.ended ≡ None
+pub sends_open : (v w : WireView) (chunked : Bool) (h k : KeptView) (taken : Taken) (none room : Bool) (answer : Given) → Counts h k taken.pieces → none ≡ (length taken.pieces == 0) → taken.recover ≡ None → taken.ended ≡ None
     → PutsAs v w (framed chunked taken.pieces) room → answer ≡ given_by none room → Sends v w chunked h k taken answer
-sends_open v w chunked h k taken none room answer counts is open_is puts same =
-    subst (Sends v w chunked h k taken) (sym same) (record { counts = counts; says = says_open v w chunked taken none room is open_is puts })
+sends_open v w chunked h k taken none room answer counts is nothing open_is puts same =
+    subst (Sends v w chunked h k taken) (sym same) (record { counts = counts; says = says_open v w chunked taken none room is nothing open_is puts })
+
+says_missing : (v w : WireView) (chunked : Bool) (taken : Taken) (room : Bool) (from : List ℕ) → taken.recover ≡ Some from → taken.ended ≡ None → PutsAs v w (framed chunked taken.pieces) room → SendsAs v w chunked taken (missing_by room from)
+says_missing v w chunked taken true from told open_is puts = (puts, told, open_is)
+says_missing v w chunked taken false from told open_is puts = (part_more v w (framed chunked taken.pieces) (last_chunk chunked None) puts, open_is)
+
+pub sends_missing : (v w : WireView) (chunked : Bool) (h k : KeptView) (taken : Taken) (room : Bool) (from : List ℕ) (answer : Given) → Counts h k taken.pieces → taken.recover ≡ Some from → taken.ended ≡ None
+    → PutsAs v w (framed chunked taken.pieces) room → answer ≡ missing_by room from → Sends v w chunked h k taken answer
+sends_missing v w chunked h k taken room from answer counts told open_is puts same =
+    subst (Sends v w chunked h k taken) (sym same) (record { counts = counts; says = says_missing v w chunked taken room from told open_is puts })
 
 pub sends_end : (v w x : WireView) (chunked : Bool) (h k : KeptView) (taken : Taken) (room : Bool) (cause : EndCause) → Counts h k taken.pieces → taken.ended ≡ Some cause
     → PutsAs v w (framed chunked taken.pieces) room → PutsNext w x (last_chunk chunked (Some cause)) room true → Sends v x chunked h k taken (given.End cause)

@@ -1,9 +1,9 @@
 -- What each call of a session's does to the rows of its holds.
-use Rattle.std.proofs.Common.{◌≡◌, ℕ, List, [], ◌∷◌, ◌++◌, refl, sym, ap, ◌∙◌, subst, append-nil, Option, Some, None, is_some}
+use Rattle.std.proofs.Common.{◌≡◌, ℕ, Bool, true, false, List, [], ◌∷◌, ◌++◌, refl, sym, ap, ◌∙◌, subst, append-nil, Option, Some, None, is_some}
 use Rattle.std.specs.List.{All, Contains}
 use Rattle.std.proofs.lemmas.Grind.{flat_map-append}
 use Rattle.std.proofs.lemmas.List.{map-append}
-use Rattle.std.proofs.lemmas.List.Elements.{All-append, All-nil, All-push, All-weaker, Contains-append_left}
+use Rattle.std.proofs.lemmas.List.Elements.{All-append, All-head, All-nil, All-push, All-tail, All-weaker, Contains-append_left}
 use Rattle.gp_plain.specs.declared.event.Entry.{Entry}
 use Rattle.gp_plain.specs.declared.event.Event.{Event}
 use Rattle.gp_plain.specs.declared.event.Event.TheVariants.{Attach, Publish, Take, Page, PageFailed, Push, Join, Leave, Detach}
@@ -18,7 +18,7 @@ use Rattle.gp_plain.specs.Reports.{tally_of, report}
 use Rattle.gp_hub.specs.Passes.{entry_of}
 use Rattle.gp_hub.specs.Own.{HasMade, HasNewHold, HasNoPlace, HasTaken, HasDetached, fresh_share, share_with, share_gone, with_share, mine}
 use Rattle.gp_session.specs.Seats.{SeatView, HasNoHolds}
-use Rattle.gp_session_hold.specs.Rows.{holds_of, share_of_hold, KeptView, IsKept, IsOver, LastHold, none, kept, over, IsReleased, StandsLast, HoldsRow, numbers_of, IsOwnEvent, IsOwn, EntriesRow, DetachedRow, spec_in, specs_in, specs_of, AttachRow}
+use Rattle.gp_session_hold.specs.Rows.{holds_of, share_of_hold, KeptView, IsKept, IsOver, LastHold, none, kept, over, IsReleased, StandsLast, HoldsRow, numbers_of, IsOwnEvent, IsOwn, EntriesRow, OwnRow, PagedRow, DetachedRow, spec_in, specs_in, specs_of, AttachRow, page_in, pages_in, PagesRow}
 use Rattle.gp_session_hold.specs.Puts.{Counts}
 use Rattle.gp_session_hold.proofs.Owning.{below, last_changed, numbers_stay, specs_stay, contains_own}
 
@@ -27,8 +27,45 @@ use Rattle.gp_session_hold.proofs.Owning.{below, last_changed, numbers_stay, spe
 pub holds_none : (s : SeatView) → HasNoHolds s → HoldsRow s [] none
 holds_none s empty = record { done = []; reported = refl; released = All-nil IsReleased; stands = empty }
 
+no_page : false ≡ true → ⊥
+no_page untrue = cc
+
 pub entries_none : (s : SeatView) → mine s.pass ≡ [] → EntriesRow s
-entries_none s empty = subst (All (IsOwn (numbers_of (holds_of s)))) (sym empty) (All-nil (IsOwn (numbers_of (holds_of s))))
+entries_none s empty = subst (All (IsOwn false (numbers_of (holds_of s)))) (sym empty) (All-nil (IsOwn false (numbers_of (holds_of s))))
+
+-- a session that brings no pages may bring some, and has brought none
+own_paged : (numbers : List ℕ) (e : Event) → IsOwnEvent false numbers e → IsOwnEvent true numbers e
+own_paged numbers (Attach spec) is = tt
+own_paged numbers (Publish item) is = absurd is
+own_paged numbers (Take hold now) is = is
+own_paged numbers (Page hold from to bytes then) is = absurd (no_page is.0)
+own_paged numbers (PageFailed hold) is = absurd (no_page is.0)
+own_paged numbers (Push hold message) is = absurd is
+own_paged numbers (Join hold channel) is = absurd is
+own_paged numbers (Leave hold channel) is = absurd is
+own_paged numbers (Detach hold) is = absurd is
+
+pub entries_paging : (s : SeatView) → EntriesRow s → PagedRow s
+entries_paging s row = All-weaker (IsOwn false (numbers_of (holds_of s))) (IsOwn true (numbers_of (holds_of s))) (λ (e : Entry) is. own_paged (numbers_of (holds_of s)) e.event is) (mine s.pass) row
+
+own_pageless : (numbers : List ℕ) (e : Event) → IsOwnEvent false numbers e → page_in e ≡ []
+own_pageless numbers (Attach spec) is = refl
+own_pageless numbers (Publish item) is = refl
+own_pageless numbers (Take hold now) is = refl
+own_pageless numbers (Page hold from to bytes then) is = absurd (no_page is.0)
+own_pageless numbers (PageFailed hold) is = absurd (no_page is.0)
+own_pageless numbers (Push hold message) is = refl
+own_pageless numbers (Join hold channel) is = refl
+own_pageless numbers (Leave hold channel) is = refl
+own_pageless numbers (Detach hold) is = refl
+
+pageless : (numbers : List ℕ) (es : List Entry) → All (IsOwn false numbers) es → pages_in es ≡ []
+pageless numbers [] all = refl
+pageless numbers (e ∷ es) all =
+    ap (λ xs. xs ++ pages_in es) (own_pageless numbers e.event (All-head (IsOwn false numbers) e es all)) ∙ pageless numbers es (All-tail (IsOwn false numbers) e es all)
+
+pub pages_none : (s : SeatView) → EntriesRow s → PagesRow s []
+pages_none s row = pageless (numbers_of (holds_of s)) (mine s.pass) row
 
 pub attaches_none : (s : SeatView) → mine s.pass ≡ [] → HasNoHolds s → AttachRow s [] None
 attaches_none s empty holds = record { made = ap specs_in empty; holds = ap specs_of holds }
@@ -63,26 +100,29 @@ module _ (s t : SeatView) (number : t.pass.number ≡ s.pass.number) where
     same_mine : mine t.pass ≡ mine s.pass
     same_mine = ap (λ (n : ℕ). mine (record t.pass { number = n })) number ∙ ap (λ es. mine (record t.pass { number = s.pass.number; seen = es })) seen
 
-    pub entries_same : EntriesRow s → EntriesRow t
-    entries_same row = subst (λ hs. All (IsOwn (numbers_of hs)) (mine t.pass)) (sym same_holds) (subst (All (IsOwn (numbers_of (holds_of s)))) (sym same_mine) row)
+    pub entries_same : (paged : Bool) → OwnRow paged s → OwnRow paged t
+    entries_same paged row = subst (λ hs. All (IsOwn paged (numbers_of hs)) (mine t.pass)) (sym same_holds) (subst (All (IsOwn paged (numbers_of (holds_of s)))) (sym same_mine) row)
 
     pub attaches_same : (specs : List HoldSpec) (refused : Option HoldSpec) → AttachRow s specs refused → AttachRow t specs refused
     attaches_same specs refused row = record { made = ap specs_in same_mine ∙ row.made; holds = ap specs_of same_holds ∙ row.holds }
 
+    pub pages_same : (pages : List Event) → PagesRow s pages → PagesRow t pages
+    pages_same pages row = ap pages_in same_mine ∙ row
+
   -- entries of the session's own
-  made_own : (numbers more : List ℕ) (event : Event) (reply : Reply) → HasMade s.pass t.pass event reply → IsOwnEvent (numbers ++ more) event → All (IsOwn numbers) (mine s.pass) → All (IsOwn (numbers ++ more)) (mine t.pass)
-  made_own numbers more event reply made own all =
-      subst (All (IsOwn (numbers ++ more))) (sym made.mine)
-      (All-append (IsOwn (numbers ++ more)) (mine s.pass) (entry_of s.pass.number event ∷ [])
-      (All-weaker (IsOwn numbers) (IsOwn (numbers ++ more)) (λ (e : Entry) is. wider e.event is) (mine s.pass) all)
-      (All-push (IsOwn (numbers ++ more)) [] (entry_of s.pass.number event) (All-nil (IsOwn (numbers ++ more))) own))
+  made_own : (paged : Bool) (numbers more : List ℕ) (event : Event) (reply : Reply) → HasMade s.pass t.pass event reply → IsOwnEvent paged (numbers ++ more) event → All (IsOwn paged numbers) (mine s.pass) → All (IsOwn paged (numbers ++ more)) (mine t.pass)
+  made_own paged numbers more event reply made own all =
+      subst (All (IsOwn paged (numbers ++ more))) (sym made.mine)
+      (All-append (IsOwn paged (numbers ++ more)) (mine s.pass) (entry_of s.pass.number event ∷ [])
+      (All-weaker (IsOwn paged numbers) (IsOwn paged (numbers ++ more)) (λ (e : Entry) is. wider e.event is) (mine s.pass) all)
+      (All-push (IsOwn paged (numbers ++ more)) [] (entry_of s.pass.number event) (All-nil (IsOwn paged (numbers ++ more))) own))
     where
-      wider : (e : Event) → IsOwnEvent numbers e → IsOwnEvent (numbers ++ more) e
+      wider : (e : Event) → IsOwnEvent paged numbers e → IsOwnEvent paged (numbers ++ more) e
       wider (Attach spec) is = tt
       wider (Publish item) is = absurd is
       wider (Take hold now) is = Contains-append_left numbers more hold is
-      wider (Page hold from to bytes then) is = absurd is
-      wider (PageFailed hold) is = absurd is
+      wider (Page hold from to bytes then) is = (is.0, Contains-append_left numbers more hold is.1)
+      wider (PageFailed hold) is = (is.0, Contains-append_left numbers more hold is.1)
       wider (Push hold message) is = absurd is
       wider (Join hold channel) is = absurd is
       wider (Leave hold channel) is = absurd is
@@ -93,6 +133,12 @@ module _ (s t : SeatView) (number : t.pass.number ≡ s.pass.number) where
       ap specs_in made.mine
       ∙ flat_map-append (λ (entry : Entry). spec_in entry.event) (mine s.pass) (entry_of s.pass.number event ∷ [])
       ∙ ap (λ xs. specs_in (mine s.pass) ++ xs) (append-nil (spec_in event))
+
+  made_pages : (event : Event) (reply : Reply) → HasMade s.pass t.pass event reply → pages_in (mine t.pass) ≡ pages_in (mine s.pass) ++ page_in event
+  made_pages event reply made =
+      ap pages_in made.mine
+      ∙ flat_map-append (λ (entry : Entry). page_in entry.event) (mine s.pass) (entry_of s.pass.number event ∷ [])
+      ∙ ap (λ xs. pages_in (mine s.pass) ++ xs) (append-nil (page_in event))
 
   -- an Attach that made a hold
   module _ (spec : HoldSpec) (hold : KeptView) (new : HasNewHold s.pass t.pass spec hold.number) where
@@ -114,10 +160,10 @@ module _ (s t : SeatView) (number : t.pass.number ≡ s.pass.number) where
       };
     }
 
-    pub entries_new : EntriesRow s → EntriesRow t
-    entries_new row =
-        subst (λ ns. All (IsOwn ns) (mine t.pass)) (sym (ap numbers_of new_holds ∙ map-append (λ (h : ℕ × Share). h.0) (holds_of s) ((hold.number, fresh_share s.pass.number spec) ∷ [])))
-        (made_own (numbers_of (holds_of s)) (hold.number ∷ []) (Attach spec) _ new.made tt row)
+    pub entries_new : (paged : Bool) → OwnRow paged s → OwnRow paged t
+    entries_new paged row =
+        subst (λ ns. All (IsOwn paged ns) (mine t.pass)) (sym (ap numbers_of new_holds ∙ map-append (λ (h : ℕ × Share). h.0) (holds_of s) ((hold.number, fresh_share s.pass.number spec) ∷ [])))
+        (made_own paged (numbers_of (holds_of s)) (hold.number ∷ []) (Attach spec) _ new.made tt row)
 
     pub attaches_new : (specs : List HoldSpec) → AttachRow s specs None → AttachRow t (specs ++ spec ∷ []) None
     attaches_new specs row = record {
@@ -133,9 +179,9 @@ module _ (s t : SeatView) (number : t.pass.number ≡ s.pass.number) where
     pub holds_full : (reports : List HoldReport) → HoldsRow s reports none → HoldsRow t reports none
     holds_full reports r = record { done = r.done; reported = r.reported; released = r.released; stands = full_holds ∙ r.stands }
 
-    pub entries_full : EntriesRow s → EntriesRow t
-    entries_full row =
-        subst (λ ns. All (IsOwn ns) (mine t.pass)) (append-nil (numbers_of (holds_of s)) ∙ sym (ap numbers_of full_holds)) (made_own (numbers_of (holds_of s)) [] (Attach spec) _ full.made tt row)
+    pub entries_full : (paged : Bool) → OwnRow paged s → OwnRow paged t
+    entries_full paged row =
+        subst (λ ns. All (IsOwn paged ns) (mine t.pass)) (append-nil (numbers_of (holds_of s)) ∙ sym (ap numbers_of full_holds)) (made_own paged (numbers_of (holds_of s)) [] (Attach spec) _ full.made tt row)
 
     pub attaches_full : (specs : List HoldSpec) → AttachRow s specs None → AttachRow t specs (Some spec)
     attaches_full specs row = record { made = made_specs (Attach spec) _ full.made ∙ ap (λ xs. xs ++ spec ∷ []) (row.made ∙ append-nil specs); holds = ap specs_of full_holds ∙ row.holds }
@@ -198,17 +244,51 @@ module _ (s t : SeatView) (number : t.pass.number ≡ s.pass.number) where
       };
     }
 
-    pub entries_taken : (share : Share) → IsKept s hold share → EntriesRow s → EntriesRow t
-    entries_taken share k row =
+    pub entries_taken : (share : Share) → IsKept s hold share → (paged : Bool) → OwnRow paged s → OwnRow paged t
+    entries_taken share k paged row =
         let own : Contains (numbers_of (holds_of s)) hold.number = contains_own s.pass.number hold.number (held s.pass.seen) share k.there k.own in
-        subst (λ ns. All (IsOwn ns) (mine t.pass)) (append-nil (numbers_of (holds_of s)) ∙ sym (ap numbers_of took_holds ∙ numbers_stay hold.number change (holds_of s)))
-        (made_own (numbers_of (holds_of s)) [] (Take hold.number now) _ took.made (Contains-append_left (numbers_of (holds_of s)) [] hold.number own) row)
+        subst (λ ns. All (IsOwn paged ns) (mine t.pass)) (append-nil (numbers_of (holds_of s)) ∙ sym (ap numbers_of took_holds ∙ numbers_stay hold.number change (holds_of s)))
+        (made_own paged (numbers_of (holds_of s)) [] (Take hold.number now) _ took.made (Contains-append_left (numbers_of (holds_of s)) [] hold.number own) row)
 
     pub attaches_taken : (specs : List HoldSpec) (refused : Option HoldSpec) → AttachRow s specs refused → AttachRow t specs refused
     attaches_taken specs refused row = record {
       made = made_specs (Take hold.number now) _ took.made ∙ append-nil (specs_in (mine s.pass)) ∙ row.made;
       holds = ap specs_of took_holds ∙ specs_stay hold.number change (λ share. refl) (holds_of s) ∙ row.holds;
     }
+
+    pub pages_taken : (pages : List Event) → PagesRow s pages → PagesRow t pages
+    pages_taken pages row = made_pages (Take hold.number now) _ took.made ∙ append-nil (pages_in (mine s.pass)) ∙ row
+
+  -- a page of a recovery, or the news that it can't be had
+  module _ (hold : KeptView) (event : Event) (reply : Reply) (made : HasMade s.pass t.pass event reply) (shares_are : shares s.pass.number t.pass.seen ≡ shares s.pass.number s.pass.seen)
+      (share_is : share_of_hold t hold.number ≡ share_of_hold s hold.number) where
+    paged_holds : holds_of t ≡ holds_of s
+    paged_holds = by_number (holds_of s) shares_are
+
+    pub kept_paged : (share : Share) → IsKept s hold share → IsKept t hold share
+    kept_paged share k = record { there = share_is ∙ k.there; own = k.own ∙ sym number; kept = k.kept; untold = k.untold; counted = k.counted }
+
+    pub holds_paged : (reports : List HoldReport) → HoldsRow s reports (kept hold) → HoldsRow t reports (kept hold)
+    holds_paged reports r = record {
+      done = r.done;
+      reported = r.reported;
+      released = r.released;
+      stands = record { share = r.stands.share; all = paged_holds ∙ r.stands.all; is = kept_paged r.stands.share r.stands.is };
+    }
+
+    pub entries_paged : IsOwnEvent true (numbers_of (holds_of s)) event → PagedRow s → PagedRow t
+    entries_paged own row =
+        subst (λ ns. All (IsOwn true ns) (mine t.pass)) (append-nil (numbers_of (holds_of s)) ∙ sym (ap numbers_of paged_holds))
+        (made_own true (numbers_of (holds_of s)) [] event reply made (subst (λ ns. IsOwnEvent true ns event) (sym (append-nil (numbers_of (holds_of s)))) own) row)
+
+    pub attaches_paged : spec_in event ≡ [] → (specs : List HoldSpec) (refused : Option HoldSpec) → AttachRow s specs refused → AttachRow t specs refused
+    attaches_paged bare specs refused row = record {
+      made = made_specs event reply made ∙ ap (λ xs. specs_in (mine s.pass) ++ xs) bare ∙ append-nil (specs_in (mine s.pass)) ∙ row.made;
+      holds = ap specs_of paged_holds ∙ row.holds;
+    }
+
+    pub pages_paged : (pages : List Event) → PagesRow s pages → PagesRow t (pages ++ page_in event)
+    pages_paged pages row = made_pages event reply made ∙ ap (λ xs. xs ++ page_in event) row
 
   -- a Detach
   module _ (hold : KeptView) (gone : HasDetached s.pass t.pass hold.number) where
@@ -228,13 +308,13 @@ module _ (s t : SeatView) (number : t.pass.number ≡ s.pass.number) where
       };
     }
 
-    pub entries_gone : (share : Share) → IsKept s hold share → EntriesRow s → DetachedRow t hold.number
-    entries_gone share k row =
+    pub entries_gone : (share : Share) → IsKept s hold share → (paged : Bool) → OwnRow paged s → DetachedRow paged t hold.number
+    entries_gone share k paged row =
         let same : numbers_of (holds_of s) ≡ numbers_of (holds_of t) = sym (ap numbers_of gone_holds ∙ numbers_stay hold.number share_gone (holds_of s)) in
         record {
           before = mine s.pass;
           all = gone.made.mine ∙ ap (λ (n : ℕ). mine s.pass ++ entry_of n (Detach hold.number) ∷ []) (sym number);
-          own = subst (λ ns. All (IsOwn ns) (mine s.pass)) same row;
+          own = subst (λ ns. All (IsOwn paged ns) (mine s.pass)) same row;
           hold_is = subst (λ ns. Contains ns hold.number) same (contains_own s.pass.number hold.number (held s.pass.seen) share k.there k.own);
         }
 

@@ -1,5 +1,5 @@
 -- How a session lets a hold go that it keeps.
-use Rattle.std.specs.Prelude.{ℕ, None}
+use Rattle.std.specs.Prelude.{ℕ, Bool, None}
 use Rattle.gp_plain.specs.declared.reply.EndCause.{EndCause}
 use Rattle.gp_plain.specs.declared.reply.EndCause.TheVariants.{Closed, Detached, Gap, Unrecovered, Overflow, Answered, Retry, TimedOut}
 use Rattle.gp_plain.specs.Others.{Share}
@@ -9,7 +9,7 @@ use Rattle.gp_hub.specs.declared.outcome.SessionEnd.TheVariants.{Sent, Cut}
 use Rattle.gp_session.specs.Seats.{SeatView}
 use Rattle.gp_session.specs.declared.holding.LetGo.{LetGo}
 use Rattle.gp_session.specs.declared.holding.LetGo.TheVariants.{Gone, Busy, Worn}
-use Rattle.gp_session_hold.specs.Rows.{KeptView, IsKept, IsOver, LastHold, kept, over, EntriesRow, DetachedRow}
+use Rattle.gp_session_hold.specs.Rows.{KeptView, IsKept, IsOver, LastHold, kept, over, OwnRow, DetachedRow}
 
 -- the last hold behind a Detach
 abbrev pub last_let_go : KeptView → LetGo → LastHold
@@ -18,10 +18,10 @@ last_let_go hold Busy = kept hold
 last_let_go hold Worn = kept hold
 
 -- the entries behind it
-abbrev pub LeavesEntries : SeatView → ℕ → LetGo → Type 0
-LeavesEntries t number Gone = DetachedRow t number
-LeavesEntries t number Busy = EntriesRow t
-LeavesEntries t number Worn = EntriesRow t
+abbrev pub LeavesEntries : Bool → SeatView → ℕ → LetGo → Type 0
+LeavesEntries paged t number Gone = DetachedRow paged t number
+LeavesEntries paged t number Busy = OwnRow paged t
+LeavesEntries paged t number Worn = OwnRow paged t
 
 -- the hold behind it: it was let go with what was taken of it, and no end was told; or it is still kept
 abbrev pub LeavesHold : SeatView → KeptView → Share → LetGo → Type 0

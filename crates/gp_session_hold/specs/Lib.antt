@@ -1,5 +1,4 @@
 pub mod Rows
-pub mod Unlinked
 pub mod Opens
 pub mod Puts
 pub mod Leaves

@@ -8,16 +8,14 @@ use Rattle.gp_session.specs.Holding.{Serves, MetBusy, MetWorn}
 use Rattle.gp_session.specs.declared.holding.Attached.{Attached}
 use Rattle.gp_session.specs.declared.holding.Attached.TheVariants as attached
 use Rattle.gp_session_hold.specs.Rows.{LastHold, none, kept, AttachRow, KeptView, IsKept}
-use Rattle.gp_session_hold.specs.Unlinked.{IsUnlinked}
 use Rattle.gp_session_hold.specs.declared.attaching.Opened.{Opened}
 use Rattle.gp_session_hold.specs.declared.attaching.Opened.TheVariants as opened
 
--- a hold that is kept, of which nothing was taken yet, and which asks the origin for nothing
+-- a hold that is kept, of which nothing was taken yet
 pub record IsOpened (s t : SeatView) (spec : HoldSpec) (room : ℕ) (hold : KeptView) : Type 0 where
   pub served : Serves t (HasNewHold s.pass t.pass spec hold.number)
   pub counted : hold.tally ≡ tally_of spec []
   pub is : IsKept t hold (fresh_share s.pass.number spec)
-  pub unlinked : IsUnlinked spec
   pub room_is : 0 < room
 
 -- nothing was made for want of memory, of the hub or before it was asked

@@ -59,16 +59,22 @@ pub record Counts (h k : KeptView) (pieces : List Piece) : Type 0 where
 -- what was given is all put, in its framing, with the last chunk where the stream is closed; where memory is wanting a
 -- beginning of it is
 abbrev pub SendsAs : WireView → WireView → Bool → Taken → Given → Type 0
-SendsAs v w chunked taken given.Pieces = PutsBehind v w (framed chunked taken.pieces) × (taken.pieces ≢ []) × (taken.ended ≡ None)
-SendsAs v w chunked taken given.Nothing = (w ≡ v) × (taken.pieces ≡ []) × (taken.ended ≡ None)
+SendsAs v w chunked taken given.Pieces = PutsBehind v w (framed chunked taken.pieces) × (taken.pieces ≢ []) × (taken.recover ≡ None) × (taken.ended ≡ None)
+SendsAs v w chunked taken given.Nothing = (w ≡ v) × (taken.pieces ≡ []) × (taken.recover ≡ None) × (taken.ended ≡ None)
+SendsAs v w chunked taken (given.Missing from) = PutsBehind v w (framed chunked taken.pieces) × (taken.recover ≡ Some from) × (taken.ended ≡ None)
 SendsAs v w chunked taken (given.End cause) = PutsBehind v w (framed chunked taken.pieces ++ last_chunk chunked (Some cause)) × (taken.ended ≡ Some cause)
 SendsAs v w chunked taken (given.Unput told) = PutsPart v w (framed chunked taken.pieces ++ last_chunk chunked told) × (taken.ended ≡ told)
 
--- what became of pieces, where no end was told
+-- what became of pieces, where neither an end was told nor an id behind which items are missing
 abbrev pub given_by : Bool → Bool → Given
 given_by true room = given.Nothing
 given_by false true = given.Pieces
 given_by false false = given.Unput None
+
+-- and where such an id was
+abbrev pub missing_by : Bool → List ℕ → Given
+missing_by true from = given.Missing from
+missing_by false from = given.Unput None
 
 pub record Sends (v w : WireView) (chunked : Bool) (h k : KeptView) (taken : Taken) (answer : Given) : Type 0 where
   pub counts : Counts h k taken.pieces

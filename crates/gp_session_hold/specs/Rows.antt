@@ -1,5 +1,5 @@
 -- What a session says of its holds, row by row. A session's holds are those that its pass attached, in order.
-use Rattle.std.specs.Prelude.{ℕ, ◌≡◌, Bool, true, false, List, [], ◌∷◌, ◌++◌, map, All, Option, Some, None, ⊤}
+use Rattle.std.specs.Prelude.{ℕ, ◌≡◌, Bool, true, false, List, [], ◌∷◌, ◌++◌, map, All, Option, Some, None, option_map, ⊤}
 use Rattle.std.specs.Option.{option_map_or, option_to_list}
 use Rattle.std.specs.List.{flat_map, Contains}
 use Rattle.gp_plain.specs.declared.event.Entry.{Entry}
@@ -82,30 +82,39 @@ pub record HoldsRow (s : SeatView) (reports : List HoldReport) (last : LastHold)
 abbrev pub numbers_of : List (ℕ × Share) → List ℕ
 numbers_of holds = map (λ (h : ℕ × Share). h.0) holds
 
--- an event that a session makes: an Attach, and a Take of a hold of its own
-abbrev pub IsOwnEvent : List ℕ → Event → Type 0
-IsOwnEvent numbers (Attach spec) = ⊤
-IsOwnEvent numbers (Publish item) = ⊥
-IsOwnEvent numbers (Take hold now) = Contains numbers hold
-IsOwnEvent numbers (Page hold from to bytes then) = ⊥
-IsOwnEvent numbers (PageFailed hold) = ⊥
-IsOwnEvent numbers (Push hold message) = ⊥
-IsOwnEvent numbers (Join hold channel) = ⊥
-IsOwnEvent numbers (Leave hold channel) = ⊥
-IsOwnEvent numbers (Detach hold) = ⊥
+-- an event that a session makes: an Attach, and a Take of a hold of its own; and, where it may bring pages, a page for a hold of its own, or
+-- the news that it can't be had
+abbrev pub IsOwnEvent : Bool → List ℕ → Event → Type 0
+IsOwnEvent paged numbers (Attach spec) = ⊤
+IsOwnEvent paged numbers (Publish item) = ⊥
+IsOwnEvent paged numbers (Take hold now) = Contains numbers hold
+IsOwnEvent paged numbers (Page hold from to bytes then) = (paged ≡ true) × Contains numbers hold
+IsOwnEvent paged numbers (PageFailed hold) = (paged ≡ true) × Contains numbers hold
+IsOwnEvent paged numbers (Push hold message) = ⊥
+IsOwnEvent paged numbers (Join hold channel) = ⊥
+IsOwnEvent paged numbers (Leave hold channel) = ⊥
+IsOwnEvent paged numbers (Detach hold) = ⊥
 
-abbrev pub IsOwn : List ℕ → Entry → Type 0
-IsOwn numbers entry = IsOwnEvent numbers entry.event
+abbrev pub IsOwn : Bool → List ℕ → Entry → Type 0
+IsOwn paged numbers entry = IsOwnEvent paged numbers entry.event
 
 -- Row: the entries. The session made no others, and no Detach
+abbrev pub OwnRow : Bool → SeatView → Type 0
+OwnRow paged s = All (IsOwn paged (numbers_of (holds_of s))) (mine s.pass)
+
+-- of a session that brings no pages
 abbrev pub EntriesRow : SeatView → Type 0
-EntriesRow s = All (IsOwn (numbers_of (holds_of s))) (mine s.pass)
+EntriesRow s = OwnRow false s
+
+-- and of one that may bring some
+abbrev pub PagedRow : SeatView → Type 0
+PagedRow s = OwnRow true s
 
 -- Row: the entries, where the last is the Detach of a hold of its own
-pub record DetachedRow (s : SeatView) (hold : ℕ) : Type 0 where
+pub record DetachedRow (paged : Bool) (s : SeatView) (hold : ℕ) : Type 0 where
   pub before : List Entry
   pub all : mine s.pass ≡ before ++ entry_of s.pass.number (Detach hold) ∷ []
-  pub own : All (IsOwn (numbers_of (holds_of s))) before
+  pub own : All (IsOwn paged (numbers_of (holds_of s))) before
   pub hold_is : Contains (numbers_of (holds_of s)) hold
 
 abbrev pub spec_in : Event → List HoldSpec
@@ -130,6 +139,33 @@ specs_of holds = map (λ (h : ℕ × Share). h.1.spec) holds
 pub record AttachRow (s : SeatView) (specs : List HoldSpec) (refused : Option HoldSpec) : Type 0 where
   pub made : specs_in (mine s.pass) ≡ specs ++ option_to_list refused
   pub holds : specs_of (holds_of s) ≡ specs
+
+abbrev pub page_in : Event → List Event
+page_in (Attach spec) = []
+page_in (Publish item) = []
+page_in (Take hold now) = []
+page_in (Page hold from to bytes then) = Page hold from to bytes then ∷ []
+page_in (PageFailed hold) = PageFailed hold ∷ []
+page_in (Push hold message) = []
+page_in (Join hold channel) = []
+page_in (Leave hold channel) = []
+page_in (Detach hold) = []
+
+-- the pages that entries bring, and the news that one can't be had, in order
+abbrev pub pages_in : List Entry → List Event
+pages_in entries = flat_map (λ (entry : Entry). page_in entry.event) entries
+
+-- Row: the pages. The session brought these, in order
+abbrev pub PagesRow : SeatView → List Event → Type 0
+PagesRow s pages = pages_in (mine s.pass) ≡ pages
+
+-- the ids behind which Takes of a hold told that items are missing, in order
+abbrev pub recovers_at : SeatView → ℕ → List (List ℕ)
+recovers_at s number = option_map_or (λ (share : Share). share.recovers) (share_of_hold s number) []
+
+-- with what a hold was attached
+abbrev pub spec_at : SeatView → ℕ → Option HoldSpec
+spec_at s number = option_map (λ (share : Share). share.spec) (share_of_hold s number)
 
 -- what was taken of a hold, and the end of it that was told
 abbrev pub taken_at : SeatView → ℕ → List Piece

@@ -1,16 +1,14 @@
 //! How a session attaches a hold.
-ghost use Rattle.std.specs.Prelude.{◌≡◌, ◌<◌, [], true, IfOk, List, None};
+ghost use Rattle.std.specs.Prelude.{◌≡◌, ◌<◌, [], true, Bool, IfOk, List, None};
 ghost use Rattle.gp_plain.specs.Fit.{fits};
 ghost use Rattle.gp_plain.specs.declared.event.Event.TheVariants.{Attach};
 ghost use Rattle.gp_plain.specs.declared.event.HoldSpec.{HoldSpec as Spec};
 ghost use Rattle.gp_plain.specs.Reports.{tally_of};
 ghost use Rattle.gp_session.specs.Seats.{MovedSeat, SeatRow};
-ghost use Rattle.gp_session_hold.specs.Rows.{AttachRow, EntriesRow, HoldsRow, none};
+ghost use Rattle.gp_session_hold.specs.Rows.{AttachRow, HoldsRow, OwnRow, none};
 ghost use Rattle.gp_session_hold.specs.Opens.{AttachesTo, OpensTo, last_opened, opened_by};
-ghost use Rattle.gp_session_hold.specs.Unlinked.{without_link};
 
 use crate::hold::KeptHold;
-use crate::unlinked::without_link;
 use gp_plain::{HoldReports, HoldSpec, Tally};
 use gp_session::{Attached, Seat};
 use std::alloc::{AllocError, Global};
@@ -22,7 +20,7 @@ pub enum Opened {
     Kept(KeptHold),
     /// No hold was made, since 4,096 are kept.
     Full,
-    /// Another call holds the turn, and the specification is handed back without a link.
+    /// Another call holds the turn, and the specification is handed back.
     Busy(HoldSpec),
     /// The hub has served as many events as it can.
     Worn,
@@ -52,7 +50,7 @@ fn opened_of(attached: Attached, tally: Tally) -> Opened
     }
 }
 
-/// Attaches a hold for a session, with room for its report. It asks the origin for nothing, whatever its specification says.
+/// Attaches a hold for a session, with room for its report.
 pub fn attach(
     alloc: Global,
     seat: &mut Seat<'_>,
@@ -63,12 +61,11 @@ pub fn attach(
     ensures moved { MovedSeat seat.old seat.new }
     ensures row { SeatRow seat.old → SeatRow seat.new }
     ensures items { reports.new.items ≡ reports.old.items }
-    ensures opens { OpensTo seat.old seat.new (without_link spec) reports.new.spare result }
+    ensures opens { OpensTo seat.old seat.new spec reports.new.spare result }
     ensures holds { HoldsRow seat.old reports.old.items none → HoldsRow seat.new reports.new.items (last_opened result) }
-    ensures entries { EntriesRow seat.old → EntriesRow seat.new }
-    ensures attaches { (specs : List Spec) → AttachRow seat.old specs None → AttachesTo seat.new specs (without_link spec) result }
+    ensures entries { (paged : Bool) → OwnRow paged seat.old → OwnRow paged seat.new }
+    ensures attaches { (specs : List Spec) → AttachRow seat.old specs None → AttachesTo seat.new specs spec result }
 {
-    let spec = without_link(spec);
     let tally = match prepared(alloc, reports, &spec) {
         Ok(tally) => tally,
         Err(_) => return Opened::NoMemory,

@@ -14,15 +14,11 @@ mod attaching;
 mod hold;
 mod law;
 mod leaving;
-mod polling;
 mod sending;
 mod stream;
-mod unlinked;
 
 pub use attaching::{Opened, attach};
 pub use hold::KeptHold;
 pub use law::{headline_law, stream_law};
 pub use leaving::stream_end;
-pub use polling::StreamPolled;
 pub use stream::{Stream, Streamed};
-pub use unlinked::without_link;

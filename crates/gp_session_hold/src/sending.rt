@@ -2,23 +2,25 @@
 ghost use Rattle.std.specs.Prelude.{◌≡◌, ◌<◌, ◌++◌, Some, length};
 ghost use Rattle.gp_answer.specs.Frames.{chunk, framed_by, last_chunk};
 ghost use Rattle.gp_plain.specs.Pieces.{message_bytes};
-ghost use Rattle.gp_session_hold.specs.Puts.{Counts, PutsAs, PutsNext, PutsOnce, Sends, framed, given_by, payload_bytes};
+ghost use Rattle.gp_session_hold.specs.Puts.{Counts, PutsAs, PutsNext, PutsOnce, Sends, framed, given_by, missing_by, payload_bytes};
 
 use crate::hold::KeptHold;
 use gp_answer::last_chunk;
 use gp_body::chunk_head;
 use gp_outside::Link;
-use gp_plain::{Body, EndCause, Message, Payload, Pieces, Taken};
+use gp_plain::{Body, EndCause, ItemId, Message, Payload, Pieces, Taken};
 use gp_session::Wire;
 use std::alloc::Global;
 
 /// What became of what a Take gave.
-#[derive(Clone, Copy, Drop)]
+#[derive(Drop)]
 pub(crate) enum Given {
-    /// It gave pieces, which are put.
+    /// It gave pieces, which are put, and told nothing else.
     Pieces,
     /// It gave nothing.
     Nothing,
+    /// It told that items are missing behind this id. Its pieces are put.
+    Missing(ItemId),
     /// It told this end, which is put behind its pieces.
     End(EndCause),
     /// Memory is wanting, so that not all of it is put. It told this end, or none.
@@ -135,7 +137,18 @@ fn put_end<L: Link>(
     }
 }
 
-/// What became of pieces, where no end was told.
+/// What became of pieces, where an id was told behind which items are missing.
+fn missing_of(from: ItemId, room: bool) -> Given
+    ensures { result ≡ missing_by room from }
+{
+    if room {
+        Given::Missing(from)
+    } else {
+        Given::Unput(None)
+    }
+}
+
+/// What became of pieces, where neither an end was told nor such an id.
 fn given_of(none: bool, room: bool) -> Given
     ensures { result ≡ given_by none room }
 {
@@ -159,11 +172,18 @@ pub(crate) fn send<L: Link>(
 ) -> Given
     ensures { Sends wire.old wire.new chunked hold.old hold.new taken result }
 {
-    let Taken { pieces, ended, .. } = taken;
+    let Taken {
+        pieces,
+        recover,
+        ended,
+    } = taken;
     let none = pieces.is_empty();
     let room = put_pieces(alloc, wire, chunked, hold, pieces);
     match ended {
-        None => given_of(none, room),
+        None => match recover {
+            None => given_of(none, room),
+            Some(from) => missing_of(from, room),
+        },
         Some(cause) => {
             if put_end(alloc, wire, chunked, room, cause) {
                 Given::End(cause)

@@ -5,28 +5,30 @@ ghost use Rattle.gp_session.specs.Seats.{SeatView};
 ghost use Rattle.gp_session.specs.Wires.{Sent};
 ghost use Rattle.gp_session_hold.specs.Puts.{PutsBehind};
 ghost use Rattle.gp_session_hold.specs.Rows.{IsKept};
-ghost use Rattle.gp_session_hold.specs.Streams.{Delivers, Streams, Turns};
-ghost use Rattle.gp_session_hold.specs.Unlinked.{IsUnlinked};
+ghost use Rattle.gp_session_hold.specs.Streams.{Delivers, Streams, Turns, answered_by};
 
 use crate::hold::KeptHold;
 use crate::sending::{Given, send};
+use gp_asking::asking_law;
 use gp_outbox::Flushed;
 use gp_outside::Link;
-use gp_plain::{Body, EndCause};
+use gp_plain::{Body, EndCause, ItemId};
 use gp_session::{Seat, Took, Wire};
 use std::alloc::Global;
 use std::marker::Model;
 use std::snapshot::Snapshot;
 
-/// What a poll of a stream came to. But for `Ended`, and for `Unput` with an end, the session keeps the hold.
-#[derive(Clone, Copy, Drop, Debug, PartialEq)]
+/// What a turn of a stream came to. But for `Ended`, and for `Unput` with an end, the session keeps the hold.
+#[derive(Drop)]
 pub enum Streamed {
+    /// A Take gave pieces, which are put, and told nothing else.
+    Gave,
     /// Nothing waits, and a Take gave nothing.
     Idle,
+    /// A Take told that items are missing behind this id. What it gave is put.
+    Missing(ItemId),
     /// Bytes wait for the link, which isn't ready to take them.
     Unsent,
-    /// 16 Takes gave pieces.
-    Sixteen,
     /// Another call holds the hub's turn.
     Busy,
     /// A Take told this end. The last chunk is put, where that is a close.
@@ -42,7 +44,7 @@ pub enum Streamed {
 }
 
 /// What one Take came to.
-#[derive(Clone, Copy, Drop)]
+#[derive(Drop)]
 pub(crate) enum Turned {
     /// It was served.
     Gave(Given),
@@ -73,6 +75,22 @@ impl Model for Stream {
     ghost view = { λ s. record { hold = s.hold; chunked = s.chunked; head = s.head.value } };
 }
 
+/// What one Take came to, where all that waited before was sent.
+fn answer_of(turned: Turned) -> Streamed
+    ensures { result ≡ answered_by turned }
+{
+    match turned {
+        Turned::Gave(Given::Pieces) => Streamed::Gave,
+        Turned::Gave(Given::Nothing) => Streamed::Idle,
+        Turned::Gave(Given::Missing(from)) => Streamed::Missing(from),
+        Turned::Gave(Given::End(cause)) => Streamed::Ended(cause),
+        Turned::Gave(Given::Unput(told)) => Streamed::Unput(told),
+        Turned::Busy => Streamed::Busy,
+        Turned::Worn => Streamed::Worn,
+        Turned::NoMemory => Streamed::NoMemory,
+    }
+}
+
 impl Stream {
     /// A stream that begins with this head, which is put. Where memory is wanting the hold is handed back.
     pub fn new<L: Link>(
@@ -83,7 +101,7 @@ impl Stream {
         head: Body,
     ) -> Result<Stream, KeptHold>
         ensures begins { MatchResult result (λ stream. (stream ≡ record { hold = hold; chunked = chunked; head = head }) × PutsBehind wire.old wire.new head) (λ back. (back ≡ hold) × (wire.new ≡ wire.old)) }
-        ensures streams { (s : SeatView) (share : Share) → IsKept s hold share → IsUnlinked share.spec → share.taken ≡ [] → Sent wire.old [] → IfOk result (λ stream. Streams stream wire.new s) }
+        ensures streams { (s : SeatView) (share : Share) → IsKept s hold share → share.taken ≡ [] → Sent wire.old [] → IfOk result (λ stream. Streams stream wire.new s) }
     {
         let said = Snapshot::of(&head);
         match wire.put(b"", head, b"") {
@@ -98,7 +116,7 @@ impl Stream {
     }
 
     /// Takes once, and puts what was given.
-    fn turn<L: Link>(&mut self, wire: &mut Wire<L>, seat: &mut Seat<'_>, now: u64) -> Turned
+    fn take<L: Link>(&mut self, wire: &mut Wire<L>, seat: &mut Seat<'_>, now: u64) -> Turned
         requires { Streams self.old wire.old seat.old }
         ensures { Turns self.old self.new wire.old wire.new seat.old seat.new now result }
     {
@@ -112,9 +130,8 @@ impl Stream {
         }
     }
 
-    /// Delivers what waits for the hold: up to 16 Takes, before each of which all that waits is sent. `now` is the moment of this
-    /// poll in seconds.
-    pub fn deliver<L: Link>(
+    /// Sends all that waits, takes once, and puts what was given. `now` is the moment of this poll in seconds.
+    pub fn turn<L: Link>(
         &mut self,
         wire: &mut Wire<L>,
         seat: &mut Seat<'_>,
@@ -123,23 +140,19 @@ impl Stream {
         requires { Streams self.old wire.old seat.old }
         ensures { Delivers self.old self.new wire.old wire.new seat.old seat.new now result }
     {
-        for count in 0..16u64 {
-            match wire.flush() {
-                Flushed::Empty => {}
-                Flushed::NotReady => return Streamed::Unsent,
-                Flushed::Failed => return Streamed::Gone,
-            }
-            match self.turn(wire, seat, now) {
-                Turned::Gave(Given::Pieces) => {}
-                Turned::Gave(Given::Nothing) => return Streamed::Idle,
-                Turned::Gave(Given::End(cause)) => return Streamed::Ended(cause),
-                Turned::Gave(Given::Unput(told)) => return Streamed::Unput(told),
-                Turned::Busy => return Streamed::Busy,
-                Turned::Worn => return Streamed::Worn,
-                Turned::NoMemory => return Streamed::NoMemory,
-            }
+        asking_law();
+        match wire.flush() {
+            Flushed::Empty => answer_of(self.take(wire, seat, now)),
+            Flushed::NotReady => Streamed::Unsent,
+            Flushed::Failed => Streamed::Gone,
         }
-        Streamed::Sixteen
+    }
+
+    /// The hold's number.
+    pub fn number(&self) -> u64
+        ensures { result ≡ self.now.hold.number }
+    {
+        self.hold.number()
     }
 
     /// The hold.

@@ -1,5 +1,5 @@
 -- The moves of a session whose origin's answer asks for a long poll.
-use Rattle.std.proofs.Common.{◌≡◌, ◌≢◌, ℕ, zero, suc, ◌+◌, ◌<◌, ◌&&◌, nat_lt, true, List, [], ◌∷◌, ◌++◌, length, Option, Some, None, is_some, option_map, refl, sym, ap, ◌∙◌, subst, arith, append-nil, length-append, inl, inr}
+use Rattle.std.proofs.Common.{◌≡◌, ◌≢◌, ℕ, zero, suc, ◌+◌, ◌<◌, ◌&&◌, nat_lt, true, List, [], ◌∷◌, ◌++◌, length, Option, Some, None, is_some, option_map, refl, sym, ap, ◌∙◌, subst, arith, append-nil, length-append, inl, inr, false}
 use Rattle.std.specs.List.{All}
 use Rattle.std.proofs.lemmas.Bool.Decides.{nat_tests}
 use Rattle.std.proofs.lemmas.List.{map-append}
@@ -27,12 +27,12 @@ use Rattle.gp_exchange.specs.Views.{ExchangeView}
 use Rattle.gp_exchange.specs.Answers.{rank, head_of}
 use Rattle.gp_exchange.specs.declared.place.Place.{Place}
 use Rattle.gp_exchange.specs.declared.place.Place.TheVariants as place
-use Rattle.gp_session.specs.Lines.{Aim, aim_of, LineRow, idle, speaking, begun_with, more_if}
+use Rattle.gp_session.specs.Lines.{Aim, aim_of, LineRow, idle, speaking}
 use Rattle.gp_session.specs.Seats.{SeatView, MovedSeat, SeatRow, IsServed, IsWorn, Busied}
 use Rattle.gp_session.specs.Watches.{WatchView, WatchRow, Uses}
 use Rattle.gp_session.specs.Wires.{WireView, MovedWire, BytesRow, exactly, Flushes}
 use Rattle.gp_session.specs.declared.holding.LetGo.TheVariants as let_go_is
-use Rattle.gp_session.proofs.Lining.{begins_talk, ended}
+use Rattle.gp_session.proofs.Lining.{begins_talk}
 use Rattle.gp_session.proofs.Moving.{rose_since, sent_same, sent_put, sent_flushed, moved_put, moved_flushed, moved_wire_same, moved_seat_same}
 use Rattle.gp_session_hold.specs.Leaves.{LeavesHold}
 use Rattle.gp_session_hold.specs.Opens.{OpensTo}
@@ -57,7 +57,7 @@ use Rattle.gp_session_http.specs.declared.leaving.Parting.TheVariants.{Gone, Wan
 use Rattle.gp_session_http.specs.declared.poll.Poll.{Poll}
 use Rattle.gp_session_http.specs.declared.stage.Ended.{Ended}
 use Rattle.gp_session_http.specs.Asking.{IsAskable, asked_after}
-use Rattle.gp_session_http.specs.Heard.{IsUnattached, IsDeclined, HasAttached, full_text, end_of}
+use Rattle.gp_session_http.specs.Heard.{aims_with, IsUnattached, IsDeclined, HasAttached, full_text, end_of}
 use Rattle.gp_session_http.specs.Holding.{EntriesAtEnd, StreamWaited, HeldLeads}
 use Rattle.gp_session_http.specs.LongPolls.{Polling, PollsFor, MayPoll, BeginningTold, DenyingTold, KeepsPoll, IsPollOf, WaitsPoll, PollIs, AnswersPoll, StillPolls, PartsBy, DepartingTold, PollEnds, denied_sent, denied_gone, denied_wanting, unbegun_wanting, unbegun_worn, answered_sent, answered_gone, unput, overflowed, unrepeated, waiting_worn, departed, IsDeniedAt, PollOver, HasAnswered, HasStopped, worn, cut, wanted, IsMissed, HasRepeated, HasDeparted, gone, stays}
 use Rattle.gp_session_http.specs.Moves.{IsBegunWith, said}
@@ -68,7 +68,7 @@ use Rattle.gp_session_http.specs.Turns.{Turn, Behind, again, AreHeld, aims_of, s
 use Rattle.gp_session_http.specs.Views.{LiveView, Goes}
 use Rattle.gp_session_http.proofs.Rows.{no_parts}
 use Rattle.gp_session_http.proofs.Hearing.{none_waits}
-use Rattle.gp_session_http.proofs.Talking.{askable, over_rank}
+use Rattle.gp_session_http.proofs.Talking.{askable}
 use Rattle.gp_session_http.proofs.Granting.{with_held, goes_on, heard_on, heard_none, calls_on, unattached_same, none_more, same_more, none_reported, none_kept}
 use Rattle.gp_session_http.proofs.Keeping.{attached_at, over_last, kept_last, last_at, went_client, declined_still, is_gone, reported_now, reported_went, over_more, kept_more, kept_reported, over_reported, over_released, parted}
 use Rattle.gp_session_http.proofs.Headlining.{turns_count, front_reports, before_count, same_count}
@@ -76,14 +76,14 @@ use Rattle.gp_session_http.proofs.Headlining.{turns_count, front_reports, before
 abbrev polling_on : (v : LiveView) (x : WireView) (u : WatchView) (t : SeatView) (r : Roomy HoldReport) (p : Poll) → Polling v p → MovedWire v.wire x → (heard : List ℕ) → x.link.received ≡ grown v.wire.link.received heard
     → Rose u.start.calls u.clock.calls → WatchRow u → MovedSeat v.seat t → (SeatRow v.seat → SeatRow t) → IsPrefix v.reports.items r.items → Polling (with_held v x u t r) p
 polling_on v x u t r p h moved heard received calls times seat row more =
-    record { heard = heard_on v x u t r p.asked.value p.exchange.value p.answer.value h.heard moved heard received calls times seat row more; wish = h.wish }
+    record { heard = heard_on v x u t r p.asked.value p.exchange.value p.answer.value h.heard moved heard received calls times seat row more; talks = h.talks; wish = h.wish }
 
 -- an end, with the rows of a long poll
-poll_end : (u l : LiveView) (n : ℕ) (p : Poll) (e : SessionEnd) (y : Why) → Goes u l → (rows : Polling l p) → EntriesAtEnd e l.seat → l.reports.items ≡ reports_of (holds_of l.seat) → (e ≢ end.Worn → All IsReleased (holds_of l.seat))
+poll_end : (u l : LiveView) (n : ℕ) (p : Poll) (e : SessionEnd) (y : Why) → Goes u l → (rows : Polling l p) → EntriesAtEnd false e l.seat → l.reports.items ≡ reports_of (holds_of l.seat) → (e ≢ end.Worn → All IsReleased (holds_of l.seat))
     → PollEnds l rows.heard.turns p e y → (ended : Ended) → ended ≡ record { end = e; why = y } → HeldLeads u l n (End ended)
 poll_end u l n p e y moved rows entries reported released says ended is = subst (λ (x : Ended). HeldLeads u l n (End x)) (sym is) (record {
   moved = moved;
-  to = record { seat = rows.heard.seat; entries = entries; reported = reported; released = released; by = inr (record { poll = p; rows = rows; says = says }) };
+  to = record { seat = rows.heard.seat; reported = reported; released = released; by = inr (record { poll = p; rows = rows; entries = entries; says = says }) };
 })
 
 -- the hub was asked for the hold
@@ -198,7 +198,7 @@ module _ (v : LiveView) (s : DenyingStage) (h : DenyingTold v s) (x : WireView) 
   denied_bytes : BytesRow x (exactly full_text)
   denied_bytes = sent_flushed v.wire x full_text f h.bytes fl
 
-  denied_end : (e : SessionEnd) → EntriesAtEnd e v.seat → PollEnds (with_held v x v.watch v.seat v.reports) h.rows.heard.turns s.poll e why.Full → (ended : Ended) → ended ≡ record { end = e; why = why.Full }
+  denied_end : (e : SessionEnd) → EntriesAtEnd false e v.seat → PollEnds (with_held v x v.watch v.seat v.reports) h.rows.heard.turns s.poll e why.Full → (ended : Ended) → ended ≡ record { end = e; why = why.Full }
       → HeldLeads v (with_held v x v.watch v.seat v.reports) 1 (End ended)
   denied_end e entries says ended is = poll_end v (with_held v x v.watch v.seat v.reports) 1 s.poll e why.Full denied_now denied_rows entries (none_reported v h.is.holds) (λ _. none_kept v h.is.holds) says ended is
 
@@ -373,7 +373,7 @@ module _ (v : LiveView) (r : Roomy HoldReport) where
 
   pub departs_by : (s : DepartingStage) (e : SessionEnd) → HasDeparted v s e → ((share : Share) → IsCounted s.hold share → None ≡ share.told → r.items ≡ v.reports.items ++ report s.hold.number share ∷ [])
       → (HoldsRow v.seat v.reports.items (over s.hold None) → HoldsRow v.seat r.items none) → (ended : Ended) → ended ≡ record { end = e; why = why.Nothing } → HeldLeads v (reported_now v r) 1 (End ended)
-  departs_by s e (gone k) says on ended is = poll_end v (reported_now v r) 1 s.poll (end_of s.parting) why.Nothing (reported_went v r) (reported_poll s.poll k.rows (over_more v r s.hold None k.holds says)) (parted v r s.parting s.hold.number k.detached) (over_reported v r (on k.holds))
+  departs_by s e (gone k) says on ended is = poll_end v (reported_now v r) 1 s.poll (end_of s.parting) why.Nothing (reported_went v r) (reported_poll s.poll k.rows (over_more v r s.hold None k.holds says)) (parted v r false s.parting s.hold.number k.detached) (over_reported v r (on k.holds))
       (λ _. over_released v r (on k.holds))
       (departed k.moment s.hold s.parting k.share (attached_at v (reported_now v r) k.rows.heard.turns (PollsFor s.poll k.moment) refl k.attached) (last_at v (reported_now v r) s.hold refl (over_last v v.reports.items s.hold None k.holds)) k.detached k.is k.asked_for k.bytes (parts_again s.parting k.by)) ended is
   departs_by s e (stays k) says on ended is = poll_end v (reported_now v r) 1 s.poll end.Worn why.Nothing (reported_went v r) (reported_poll s.poll k.keeps.rows (kept_more v r s.hold k.keeps.holds says)) k.keeps.entries (kept_reported v r s.hold k.keeps.holds says) (λ no. absurd (no refl))
@@ -400,7 +400,7 @@ module _ (v : LiveView) (s : AnsweringStage) (h : AnswersPoll v s.poll s.hold.va
     is = record { share = h.is.is.share; ended = h.is.is.ended; answer = h.is.is.answer; chosen = h.is.is.chosen; code_is = h.is.is.code_is; bytes = sent_flushed v.wire x _ f h.is.is.bytes fl };
   }
 
-  answer_end : (e : SessionEnd) → EntriesAtEnd e v.seat → PollEnds (with_held v x v.watch v.seat v.reports) h.rows.heard.turns s.poll e why.Nothing → (ended : Ended) → ended ≡ record { end = e; why = why.Nothing }
+  answer_end : (e : SessionEnd) → EntriesAtEnd false e v.seat → PollEnds (with_held v x v.watch v.seat v.reports) h.rows.heard.turns s.poll e why.Nothing → (ended : Ended) → ended ≡ record { end = e; why = why.Nothing }
       → HeldLeads v (with_held v x v.watch v.seat v.reports) 1 (End ended)
   answer_end e entries says ended is = poll_end v (with_held v x v.watch v.seat v.reports) 1 s.poll e why.Nothing answer_now answer_rows entries (none_reported v h.is.holds) (λ _. none_kept v h.is.holds) says ended is
 
@@ -441,7 +441,7 @@ module _ (v : LiveView) (s : DepartingStage) (h : DepartingTold v s) (t : SeatVi
   parts_on Gone b = b
   parts_on Wanting b = tt
 
-  pub depart_gone : DetachedRow t s.hold.number → HoldsRow t v.reports.items (over s.hold None) → ((share : Share) → IsKept v.seat s.hold share → LeavesHold t s.hold share let_go_is.Gone) → (e : SessionEnd) → e ≡ end_of s.parting → HasDeparted gone_poll s e
+  pub depart_gone : DetachedRow false t s.hold.number → HoldsRow t v.reports.items (over s.hold None) → ((share : Share) → IsKept v.seat s.hold share → LeavesHold t s.hold share let_go_is.Gone) → (e : SessionEnd) → e ≡ end_of s.parting → HasDeparted gone_poll s e
   depart_gone detached holds leaves e is = subst (HasDeparted gone_poll s) (sym is) (gone (record {
     rows = depart_rows;
     moment = h.moment;
@@ -478,9 +478,6 @@ heard_again Is received (suc m) n e b = b
 push_held : (s : SeatView) (turns : List Turn) (turn : Turn) → AreHeld s turns → AreHeld s (turn ∷ []) → AreHeld s (turns ++ turn ∷ [])
 push_held s [] turn h one = one
 push_held s (t ∷ ts) turn h one = (h.0, push_held s ts turn h.1 one)
-
-aims_begun : (aims : List Aim) (x : ExchangeView) (given : List ℕ) → rank x.place ≡ 5 → begun_with aims (said x given) ≡ aims ++ aim_of (said x given) ∷ []
-aims_begun aims x given five = ap (λ (n : ℕ). more_if n aims (aim_of (said x given))) five
 
 some_same : {A : Type 0} {x y : A} → Some x ≡ Some y → x ≡ y
 some_same e = cc
@@ -575,9 +572,8 @@ module _ (v : LiveView) (p : Poll) (kept_again : Option Asked) (r : Repeat) (h :
         let heard = h.over.rows.heard in
         let x = stage.exchange in
         let here : x ≡ record { asked = x.asked; place = place.Unbegun x.asked.request } = ap (λ (q : Place). record { asked = x.asked; place = q }) begun.begins.unbegun in
-        let over_now = over_rank _ p.exchange.value.place heard.answers.over in
-        let aims : begun_with (aims_of heard.turns) (said p.exchange.value heard.content) ≡ aims_of (heard.turns ++ this_turn ∷ []) =
-        aims_begun (aims_of heard.turns) p.exchange.value heard.content over_now ∙ sym (map-append (λ (t : Turn). aim_of (said t.exchange t.content)) heard.turns (this_turn ∷ [])) in
+        let aims : aims_with heard.turns p.exchange.value heard.content ≡ aims_of (heard.turns ++ this_turn ∷ []) =
+        sym (map-append (λ (t : Turn). aim_of (said t.exchange t.content)) heard.turns (this_turn ∷ [])) in
         let spec_same : h.over.attached.spec ≡ missed.retried.share.spec =
         same_spec p h.over.moment h.over.attached.spec missed.retried.share.spec h.over.attached.spec_is (subst (PollsFor p h.over.moment) (sym missed.retried.ended.spec_is) h.over.poll_is.spec_is) in
         let specs : specs_before heard.turns ++ h.over.attached.spec ∷ [] ≡ specs_before (heard.turns ++ this_turn ∷ []) =
@@ -602,7 +598,7 @@ module _ (v : LiveView) (p : Poll) (kept_again : Option Asked) (r : Repeat) (h :
                   held = push_held v.seat heard.turns this_turn heard.held (missed.retried.ended.is.there, tt);
                   talks = λ alone. subst (λ (y : ExchangeView). LineRow v.line (aims_of (heard.turns ++ this_turn ∷ [])) (speaking (said y []))) (sym here)
                       (begins_talk v.line (aims_of (heard.turns ++ this_turn ∷ [])) x.asked x.asked.request
-                      (subst (λ (a : List Aim). LineRow v.line a idle) aims (ended v.line (aims_of heard.turns) (said p.exchange.value heard.content) (heard.talks alone))));
+                      (subst (λ (a : List Aim). LineRow v.line a idle) aims (h.over.rows.talks alone)));
                   entries = h.over.entries;
                   attaches = subst (λ (ss : List HoldSpec). AttachRow v.seat ss None) specs h.over.attached.attaches;
                   holds = row;

@@ -1,5 +1,5 @@
 -- What gathering the body of an answer does to the rows of a session.
-use Rattle.std.proofs.Common.{◌≡◌, ℕ, zero, suc, ◌+◌, ◌-◌, ◌<◌, ◌≤◌, Bool, true, false, List, [], ◌∷◌, ◌++◌, length, nat_lt, Option, Some, None, option_map, refl, sym, ap, ◌∙◌, subst, arith, append-nil, length-append, ◌⊎◌, inl, inr}
+use Rattle.std.proofs.Common.{◌≡◌, ℕ, zero, suc, ◌+◌, ◌-◌, ◌<◌, ◌≤◌, Bool, true, false, List, [], ◌∷◌, ◌++◌, length, nat_lt, Option, Some, None, refl, sym, ap, ◌∙◌, subst, arith, append-nil, length-append, ◌⊎◌, inl, inr}
 use Rattle.std.specs.Prelude.{if◌then◌else◌}
 use Rattle.std.proofs.lemmas.Bool.Decides.{nat_tests}
 use Rattle.gp_answer.specs.Framings.{streamed}
@@ -25,9 +25,10 @@ use Rattle.gp_exchange.specs.declared.answer.ExchangeFault.{ExchangeFault}
 use Rattle.gp_exchange.specs.declared.answer.Last.{Last as ExchangeLast}
 use Rattle.gp_exchange.specs.declared.answer.Last.TheVariants as last
 use Rattle.gp_exchange.specs.declared.answer.Progress.TheVariants.{Fault, NotReady}
-use Rattle.gp_session.specs.Lines.{Aim, LineView, MovedLine, LineRow, speaking, hung}
+use Rattle.gp_forward.specs.Conditions.{ForwardLaw}
+use Rattle.gp_session.proofs.Lining.{ended}
+use Rattle.gp_session.specs.Lines.{Aim, LineView, MovedLine, LineRow, aim_of, begun_with, hung, idle, more_if, speaking}
 use Rattle.gp_session.specs.Wires.{WireView}
-use Rattle.gp_session_hold.specs.Unlinked.{without_link}
 use Rattle.gp_session_http.specs.declared.asked.Asked.{Asked}
 use Rattle.gp_session_http.specs.declared.asking.Asking.{Asking as AskingStage}
 use Rattle.gp_session_http.specs.declared.attaching.Attaching.{Attaching as AttachingStage}
@@ -44,12 +45,12 @@ use Rattle.gp_session_http.specs.declared.stage.Next.TheVariants.{Go, Wait, Hold
 use Rattle.gp_routes.specs.declared.route.Rule.{Rule}
 use Rattle.gp_session_wait.specs.Openings.{may_repeat}
 use Rattle.gp_session_wait.specs.Waits.{most_repeats}
-use Rattle.gp_session_http.specs.Asking.{IsGathered, HasGatheredHead, FailsBy, why_failed}
-use Rattle.gp_session_http.specs.Grants.{hold_by, IsHoldOf, IsPrepared, stream_head_by}
-use Rattle.gp_session_http.specs.Heard.{Heard, IsUnattached}
+use Rattle.gp_session_http.specs.Asking.{IsAskable, IsGathered, HasGatheredHead, FailsBy, why_failed}
+use Rattle.gp_session_http.specs.Grants.{hold_by, link_of, source_at, IsHoldOf, IsPrepared, stream_head_by}
+use Rattle.gp_session_http.specs.Heard.{Heard, IsAlone, IsUnattached}
 use Rattle.gp_session_http.specs.Posings.{IsCountedIn, IsOpeningOf, IsPosed, kept_for}
 use Rattle.gp_session_http.specs.Routing.{Charter, IsServed}
-use Rattle.gp_session_http.specs.Turns.{Turn, Behind, first as asked_first, again as asked_again, reports_before}
+use Rattle.gp_session_http.specs.Turns.{Turn, Behind, first as asked_first, again as asked_again, aims_of, reports_before}
 use Rattle.gp_session_http.specs.Givings.{code_given, given_text}
 use Rattle.gp_session_http.specs.Moves.{waits, Leads, HasAsked, said, IsAnsweredAt, IsFailedAt, HasFailedAt, HasCome, HasComeAll, IsAnsweredWith, GathersOn, GathersTo}
 use Rattle.gp_session_http.specs.Passing.{ArePartsOf, code_by, in_chunks}
@@ -58,9 +59,8 @@ use Rattle.gp_session_http.specs.Views.{LiveView, Moved}
 use Rattle.gp_session_http.specs.Wishes.{most_gathered, IsWish, status_of}
 use Rattle.gp_session_http.proofs.Rows.{with_wire, with_line, moved_by_put, moved_unput, moved_line, moved_same, moved_again, no_parts, leads_from}
 use Rattle.gp_session_http.proofs.Hearing.{none_waits}
-use Rattle.gp_session_http.proofs.Talking.{polled, put_on, put_none, over_hung, over_rank, faulted}
+use Rattle.gp_session_http.proofs.Talking.{askable, polled, put_on, put_none, over_hung, over_rank, faulted}
 use Rattle.gp_session_http.proofs.Sending.{more_parts, still_reads}
-use Rattle.gp_session_http.proofs.Granting.{unlinked_fits}
 
 -- the rows of a stage that gathers
 
@@ -305,15 +305,9 @@ counted_by true head content answer instruct read is = by_instruct answer.instru
 counted_by false head content answer instruct read is =
     let has : IsInstruct head.fields (Some instruct) = subst (IsInstruct head.fields) is read.instruct in record { asked = asked_by head.fields; subs = has.1.subs; count = has.1.count }
 
-fits_by : (o : Option Instruct) (body : List ℕ) (now : ℕ) (held : HoldSpec) → ((instruct : Instruct) → o ≡ Some instruct → IsCounted instruct) → length body ≤ 262144 → option_map without_link (hold_by o body now) ≡ Some held → fits (Attach held) ≡ true
+fits_by : (o : Option Instruct) (body : List ℕ) (now : ℕ) (held : HoldSpec) → ((instruct : Instruct) → o ≡ Some instruct → IsCounted instruct) → length body ≤ 262144 → hold_by o body now ≡ Some held → fits (Attach held) ≡ true
 fits_by None body now held counted short is = let no : ⊥ = cc in absurd no
-fits_by (Some instruct) body now held counted short is = by_spec (spec instruct body now false) refl is
-  where
-    by_spec : (o : Option HoldSpec) → spec instruct body now false ≡ o → option_map without_link o ≡ Some held → fits (Attach held) ≡ true
-    by_spec None e f = let no : ⊥ = cc in absurd no
-    by_spec (Some raw) e f =
-        let same : without_link raw ≡ held = cc in
-        subst (λ (x : HoldSpec). fits (Attach x) ≡ true) same (unlinked_fits raw ∙ spec_law_holds instruct body now false raw (counted instruct refl) short e)
+fits_by (Some instruct) body now held counted short is = spec_law_holds instruct body now false held (counted instruct refl) short is
 
 -- what is asked for is attached
 
@@ -333,7 +327,6 @@ heard_first v s answer h = record {
   content = h.content;
   turns = h.rows.talks.turns;
   request = record { received = h.rows.request.received; since = h.rows.request.since; asks = heard_serves v.charter.rules s.asked s.asked.repeats h.rows.request.received h.rows.request.asks };
-  talks = h.rows.talks.talks;
   aim = h.rows.aim;
   behind = h.rows.talks.behind;
   held = h.rows.talks.held;
@@ -346,15 +339,30 @@ heard_first v s answer h = record {
   dials = h.rows.stays.dials;
 }
 
+aims_begun : (aims : List Aim) (x : ExchangeView) (given : List ℕ) → rank x.place ≡ 5 → begun_with aims (said x given) ≡ aims ++ aim_of (said x given) ∷ []
+aims_begun aims x given five = ap (λ (n : ℕ). more_if n aims (aim_of (said x given))) five
+
+-- there were no talks but this and those before
+alone_first : (v : LiveView) (s : AskingStage) (answer : Answer) (h : IsAnsweredWith v s answer) → IsAlone v s.asked s.exchange answer (heard_first v s answer h)
+alone_first v s answer h = λ idle_is.
+    subst (λ (all : List Aim). LineRow v.line all idle) (aims_begun (aims_of h.rows.talks.turns) s.exchange h.content (over_rank _ s.exchange.place h.over))
+    (ended v.line (aims_of h.rows.talks.turns) (said s.exchange h.content) (h.rows.talks.talks idle_is))
+
+-- the request that was answered can be asked again
+pub askable_answered : ForwardLaw → (v : LiveView) (s : AskingStage) (answer : Answer) → IsAnsweredWith v s answer → IsAskable s.asked
+askable_answered law v s answer h =
+    let b : BeginsWith (IsServed v.charter.rules s.asked.request s.asked.address) h.rows.request.received = heard_serves v.charter.rules s.asked s.asked.repeats h.rows.request.received h.rows.request.asks in
+    askable law v.charter.rules b.used s.asked b.is
+
 -- what contracts remember of an answer
 module _ (v : LiveView) (s : AskingStage) (answer : Answer) (h : IsAnsweredWith v s answer) (asked : Asked) (x : ExchangeView) (given : Answer) (asked_is : asked ≡ s.asked) (exchange_is : x ≡ s.exchange) (answer_is : given ≡ answer) where
   as_given : (P : Asked → ExchangeView → Answer → Type 0) → P s.asked s.exchange answer → P asked x given
   as_given P p = subst (λ (a : Answer). P asked x a) (sym answer_is) (subst (λ (y : ExchangeView). P asked y answer) (sym exchange_is) (subst (λ (a : Asked). P a s.exchange answer) (sym asked_is) p))
 
   -- the rows, and what no hold was made for yet
-  heard_with : (h : Heard v asked x given) × IsUnattached v h.turns
-  heard_with = as_given (λ a y z. (h : Heard v a y z) × IsUnattached v h.turns)
-      (heard_first v s answer h, record { entries = h.rows.talks.entries; attaches = h.rows.talks.attaches; holds = h.rows.talks.holds; bytes = h.rows.bytes })
+  heard_with : (h : Heard v asked x given) × IsAlone v asked x given h × IsUnattached v h.turns
+  heard_with = as_given (λ a y z. (h : Heard v a y z) × IsAlone v a y z h × IsUnattached v h.turns)
+      (heard_first v s answer h, alone_first v s answer h, record { entries = h.rows.talks.entries; attaches = h.rows.talks.attaches; holds = h.rows.talks.holds; bytes = h.rows.bytes })
 
 pub holds_answer : (v : LiveView) (s : AskingStage) (answer : Answer) → IsAnsweredWith v s answer → IsWish answer Stream → (a : AttachingStage) → IsPrepared s.asked s.exchange answer a → Leads v v 2 (Hold (Attaching a))
 holds_answer v s answer h wish a p =
@@ -372,11 +380,13 @@ holds_answer v s answer h wish a p =
             chunked = given (λ x y z. g.chunked ≡ in_chunks (streamed x.request.head.version)) p.grant.chunked;
           };
         };
-        is = rows.1;
+        alone = rows.1;
+        is = rows.2;
         served = h.rows.stays.served;
         spec_is = given (λ x y z. IsHoldOf z x.moment a.spec) p.spec_is;
         fit = fits_by answer.instruct answer.body s.asked.moment a.spec (λ instruct e. counted_by (has_type h.head.fields) h.head h.content answer instruct h.read e) wish.1 p.spec_is;
         head = given (λ x y z. a.head ≡ stream_head_by z x.request.head.version) p.head;
+        again = given (λ x y z. a.again ≡ source_at x (link_of z.instruct) a.spec) p.again;
       };
     }
 
@@ -388,8 +398,8 @@ polls_answer v s answer h wish b p =
     record {
       moved = moved_same v;
       to = record {
-        rows = record { heard = rows.0; wish = given (λ x y z. IsWish z Poll) wish };
-        is = rows.1;
+        rows = record { heard = rows.0; talks = rows.1; wish = given (λ x y z. IsWish z Poll) wish };
+        is = rows.2;
         served = h.rows.stays.served;
         opens = given (λ x y z. IsOpeningOf z x.repeats b.opening) p.opens;
         again = given (λ x y z. b.again ≡ kept_for x (may_repeat b.opening.channel b.opening.repeats)) p.again;

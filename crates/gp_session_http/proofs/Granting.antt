@@ -1,28 +1,26 @@
 -- What each kind of move does to the rows of a session whose origin's answer asks for a stream.
-use Rattle.std.proofs.Common.{◌≡◌, ℕ, ◌+◌, ◌<◌, ◌≤◌, true, List, [], ◌∷◌, ◌++◌, length, Option, Some, None, option_map, refl, sym, ap, ◌∙◌, subst, arith, append-nil, append_assoc, ◌⊎◌, inl, inr}
+use Rattle.std.proofs.Common.{◌≡◌, ℕ, ◌+◌, ◌<◌, ◌≤◌, true, List, [], ◌∷◌, ◌++◌, length, Option, Some, None, refl, sym, ap, ◌∙◌, subst, arith, append-nil, append_assoc, ◌⊎◌, inl, inr}
 use Rattle.std.specs.List.{All}
 use Rattle.std.proofs.lemmas.List.Elements.{All-nil, All-push, All-head, All-tail}
 use mathlib.Core.List.{IsPrefix}
-use Rattle.gp_plain.specs.Fit.{fits}
 use Rattle.gp_plain.specs.History.{held as held_in}
 use Rattle.gp_plain.specs.Others.{share_at}
 use Rattle.gp_plain.specs.Roomy.{Roomy}
 use Rattle.gp_plain.specs.declared.event.Entry.{Entry}
-use Rattle.gp_plain.specs.declared.event.Event.TheVariants.{Attach}
-use Rattle.gp_plain.specs.declared.event.HoldSpec.{HoldSpec}
-use Rattle.gp_plain.specs.declared.event.HoldSpec.TheVariants.{Stream as StreamSpec, Plain, Response, Socket}
 use Rattle.gp_plain.specs.declared.reply.HoldReport.{HoldReport}
 use Rattle.gp_plain.proofs.ShareLaws.{released_share_law_holds}
 use Rattle.gp_outside.specs.Counts.{Rose, grown}
+use Rattle.gp_outside.specs.Dials.{DialLater, DialTells}
 use Rattle.gp_outside.specs.Links.{LinkTells}
 use Rattle.gp_instruct_json.specs.declared.answer.Answer.{Answer}
 use Rattle.gp_exchange.specs.Views.{ExchangeView}
+use Rattle.gp_exchange.proofs.Leading.{later_later}
+use Rattle.gp_session.specs.Lines.{LineView, MovedLine}
 use Rattle.gp_session.specs.Seats.{SeatView, MovedSeat, SeatRow}
 use Rattle.gp_session.specs.Watches.{WatchView, WatchRow, Uses, Asks as AsksClock}
 use Rattle.gp_session.specs.Wires.{WireView, MovedWire}
 use Rattle.gp_session.proofs.Moving.{later_since, moved_wire_same, moved_wire_again, moved_seat_same, moved_seat_again, busied_from, write_waited_from}
 use Rattle.gp_session_hold.specs.Rows.{EntriesRow, AttachRow, HoldsRow, none, holds_of, reports_of, IsReleased}
-use Rattle.gp_session_hold.specs.Unlinked.{without_link}
 use Rattle.gp_session_wait.specs.Waits.{most_repeats}
 use Rattle.gp_session_http.specs.declared.asked.Asked.{Asked}
 use Rattle.gp_session_http.specs.declared.asking.Asking.{Asking as AskingStage}
@@ -67,16 +65,21 @@ pub held_pends_from : (u v w : LiveView) (stage : Held) → Goes u v → HeldPen
 held_pends_from u v w (Attaching s) m p = busied_from u.seat v.seat w.seat m.seat p
 held_pends_from u v w (Declining s) m p = record { some = p.some; waited = write_waited_from u.wire v.wire w.wire m.wire p.waited }
 held_pends_from u v w (Streaming s) m p = record {
-  wire = p.wire;
-  seat = p.seat;
-  moved_wire = moved_wire_again u.wire v.wire p.wire m.wire p.moved_wire;
-  moved_seat = moved_seat_again u.seat v.seat p.seat m.seat p.moved_seat;
-  now = p.now;
-  moment = p.moment;
-  last = p.last;
-  heard = p.heard;
-  received = p.received;
-  pends = p.pends;
+  waited = record {
+    wire = p.waited.wire;
+    seat = p.waited.seat;
+    moved_wire = moved_wire_again u.wire v.wire p.waited.wire m.wire p.waited.moved_wire;
+    moved_seat = moved_seat_again u.seat v.seat p.waited.seat m.seat p.waited.moved_seat;
+    now = p.waited.now;
+    moment = p.waited.moment;
+    last = p.waited.last;
+    heard = p.waited.heard;
+    received = p.waited.received;
+    pends = p.waited.pends;
+  };
+  line = p.line;
+  moved_line = line_again u.line v.line p.line m.line p.moved_line;
+  talk = p.talk;
 }
 held_pends_from u v w (Closing s) m p = record { some = p.some; waited = write_waited_from u.wire v.wire w.wire m.wire p.waited }
 held_pends_from u v w (Leaving s) m p = busied_from u.seat v.seat w.seat m.seat p
@@ -178,7 +181,6 @@ module _ (v : LiveView) (x : WireView) (u : WatchView) (t : SeatView) (r : Roomy
       since = received ∙ ap (λ told. grown told heard) h.request.since ∙ heard_twice v.wire.start.received h.request.received heard ∙ ap (λ (k : LinkTells). grown k.received (h.request.received ++ heard)) (sym moved.start);
       asks = more_unused (IsServed v.charter.rules asked.request asked.address) h.request.received heard h.request.asks;
     };
-    talks = h.talks;
     aim = h.aim;
     behind = h.behind;
     held = held_moved v.seat t v.charter h.turns asked seat h.behind h.held;
@@ -190,6 +192,24 @@ module _ (v : LiveView) (x : WireView) (u : WatchView) (t : SeatView) (r : Roomy
     links = later_since v.wire x h.links moved;
     dials = h.dials;
   }
+
+-- the dialer's end moved
+abbrev pub heard_line : (v : LiveView) (m : LineView) (asked : Asked) (y : ExchangeView) (answer : Answer) → Heard v asked y answer → MovedLine v.line m → Heard (record v { line = m }) asked y answer
+heard_line v m asked y answer h moved = record {
+  content = h.content;
+  turns = h.turns;
+  request = h.request;
+  aim = h.aim;
+  behind = h.behind;
+  held = h.held;
+  told = h.told;
+  answers = h.answers;
+  calls = h.calls;
+  times = h.times;
+  seat = h.seat;
+  links = h.links;
+  dials = subst (λ (start : DialTells). DialLater start m.dial) (sym moved.start) (later_later v.line.start v.line.dial m.dial h.dials moved.later);
+}
 
 -- the client's end alone moved
 abbrev pub heard_wire : (v : LiveView) (x : WireView) (asked : Asked) (y : ExchangeView) (answer : Answer) → Heard v asked y answer → MovedWire v.wire x → x.link.received ≡ v.wire.link.received → Heard (with_held v x v.watch v.seat v.reports) asked y answer
@@ -209,6 +229,9 @@ granting_wire v x g h moved same = record { heard = heard_wire v x g.asked.value
 
 abbrev pub granting_seat : (v : LiveView) (t : SeatView) (r : Roomy HoldReport) (g : Grant) → Granting v g → MovedSeat v.seat t → (SeatRow v.seat → SeatRow t) → IsPrefix v.reports.items r.items → Granting (with_held v v.wire v.watch t r) g
 granting_seat v t r g h seat row more = record { heard = heard_seat v t r g.asked.value g.exchange.value g.answer.value h.heard seat row more; is = h.is }
+
+abbrev pub granting_line : (v : LiveView) (m : LineView) (g : Grant) → Granting v g → MovedLine v.line m → Granting (record v { line = m }) g
+granting_line v m g h moved = record { heard = heard_line v m g.asked.value g.exchange.value g.answer.value h.heard moved; is = h.is }
 
 rose_again : (a b c : ℕ) → Rose a b → Rose b c → Rose a c
 rose_again a b c p q = omega (arith, p, q)
@@ -231,23 +254,3 @@ none_reported l h = h.reported ∙ ap reports_of (sym h.stands)
 
 pub none_kept : (l : LiveView) → HoldsRow l.seat l.reports.items none → All IsReleased (holds_of l.seat)
 none_kept l h = subst (All IsReleased) (sym h.stands) h.released
-
--- a hold without a link stays so
-
-pub unlinked_twice : (s : HoldSpec) → without_link (without_link s) ≡ without_link s
-unlinked_twice (StreamSpec opening channel prev link) = refl
-unlinked_twice (Plain opening channels) = refl
-unlinked_twice (Response channels prev deadline again) = refl
-unlinked_twice Socket = refl
-
-pub unlinked_fits : (s : HoldSpec) → fits (Attach (without_link s)) ≡ fits (Attach s)
-unlinked_fits (StreamSpec opening channel prev link) = refl
-unlinked_fits (Plain opening channels) = refl
-unlinked_fits (Response channels prev deadline again) = refl
-unlinked_fits Socket = refl
-
-pub unlinked_again : (asked : Option HoldSpec) (s : HoldSpec) → option_map without_link asked ≡ Some s → option_map without_link asked ≡ Some (without_link s)
-unlinked_again None s e = let no : ⊥ = cc in absurd no
-unlinked_again (Some x) s e =
-    let is : without_link x ≡ s = cc in
-    ap Some (sym (unlinked_twice x) ∙ ap without_link is)

@@ -38,17 +38,19 @@ use Rattle.gp_session_http.specs.declared.leaving.Parting.TheVariants.{Gone, Wan
 use Rattle.gp_session_http.specs.declared.stage.Stage.{Stage}
 use Rattle.gp_session_http.specs.declared.stage.Ended.{Ended}
 use Rattle.gp_session_http.specs.Routing.{Charter}
-use Rattle.gp_session_http.specs.Grants.{stream_head, AsksFor}
+use Rattle.gp_session_http.specs.Grants.{stream_head, AsksFor, source_of}
 use Rattle.gp_session_http.specs.Posings.{own_of}
 use Rattle.gp_session_http.specs.Turns.{Turn, Behind, first as asked_first, again as asked_again, AreHeld, specs_before, reports_before, PastOf}
 use Rattle.gp_session_http.specs.Trace.{asked_in, last_of, Told}
 use Rattle.gp_session_http.specs.Moves.{hung_up}
-use Rattle.gp_session_http.specs.Heard.{IsUnattached, IsDeclined, HasAttached, IsLastHold}
+use Rattle.gp_session_http.specs.Heard.{BeginsTalks, IsUnattached, IsDeclined, HasAttached, IsLastHold}
 use Rattle.gp_session_http.specs.LongPolls.{Polling, PollsFor, MayPoll, IsPollOf, StillPolls, PollEnds, denied_sent, denied_gone, denied_wanting, unbegun_wanting, unbegun_worn, answered_sent, answered_gone, unput, overflowed, unrepeated, waiting_worn, departed}
-use Rattle.gp_session_http.specs.Headlines.{FollowsHold, WasRepeated, HasLine, streamed, polled, repeated, HasHeadline}
-use Rattle.gp_session_http.specs.Holding.{StreamFinishes, PollFinishes, Granting, stream_of, HeldTold, LeavesAs, LeftAs, HeldEnds, full_sent, full_gone, full_wanting, unattached_wanting, unattached_worn, told_sent, told_gone, told_wanting, kept_worn, leaving_worn, let_go}
+use Rattle.gp_session_http.specs.Headlines.{FollowsHold, IsStreamed, WasRepeated, HasLine, streamed, polled, repeated, HasHeadline}
+use Rattle.gp_session_http.specs.Holding.{StreamFinishes, PollFinishes, Granting, HasRecalled, Recalled, aims_for, alone, recalled, stream_of, HeldTold, LeavesAs, LeftAs, HeldEnds, full_sent, full_gone, full_wanting, unattached_wanting, unattached_worn, told_sent, told_gone, told_wanting, kept_worn, leaving_worn, let_go}
 use Rattle.gp_session_http.specs.Polls.{PhaseFinishes}
 use Rattle.gp_session_http.specs.Views.{LiveView}
+use Rattle.gp_session_recover.specs.Rows.{sides}
+use Rattle.gp_session_http.proofs.Recalling.{begins_alone, closed_begins, recovers_begins}
 
 none_in : (number : ℕ) → Contains [] number → ⊥
 none_in number (k, lt, at) = absurd (omega (arith, lt))
@@ -269,17 +271,26 @@ module _ (l : LiveView) (turns : List Turn) (asked : Asked) (behind : Behind l.c
   by_reported Asks hold last at same line =
       line_last l l.charter turns asked behind held hold last at.spec at.attaches (report hold.number last.share ∷ []) told.0 (last_reports l turns hold last told same) line
 
+line_recalled : (l : LiveView) (g : Grant) (rows : Granting l g) (number : ℕ) → Recalled l g rows number → FollowsHold l g number → HasLine l number
+line_recalled l g rows number c follows =
+    streamed (record { grant = g; rows = rows; talks = closed_begins l.charter.signer (source_of g c.spec) (aims_for l g rows) c.qs number l.line l.seat c.row; follows = follows })
+
 pub headline_held : (l : LiveView) (stage : Held) → HeldTold l stage → HasHeadline l
 headline_held l (Attaching s) h = let k = h.rows.heard in by_unattached l k.turns s.grant.asked.value k.behind k.held k.told h.is
 headline_held l (Declining s) h = let k = h.rows.heard in by_declined l k.turns s.grant.asked.value k.behind k.held k.told (AsksFor s.grant) h.is
 headline_held l (Streaming s) h = let k = h.keeps.rows.heard in
-    by_kept l k.turns s.grant.asked.value k.behind k.held k.told (AsksFor s.grant) s.stream.hold h.keeps.attached h.keeps.holds
-    (streamed (s.grant, h.keeps.rows, follows_stream l s.grant s.stream.hold (subst (λ z. Streams z l.wire l.seat) h.framed h.streams)))
+    by_kept l k.turns s.grant.asked.value k.behind k.held k.told (AsksFor s.grant) s.recovering.stream.hold h.keeps.attached h.keeps.holds
+    (streamed (record {
+      grant = s.grant;
+      rows = h.keeps.rows;
+      talks = recovers_begins l.charter.signer (source_of s.grant h.recalls.spec) (aims_for l s.grant h.keeps.rows) h.recalls.qs (sides s.recovering l.wire l.line l.seat) h.recalls.row;
+      follows = follows_stream l s.grant s.recovering.stream.hold (subst (λ z. Streams z l.wire l.seat) h.framed h.streams);
+    }))
 headline_held l (Closing s) h = let k = h.rows.heard in
     by_reported l k.turns s.grant.asked.value k.behind k.held k.told (AsksFor s.grant) s.hold.value h.is.own h.is.attached (none_reports l h.is.holds)
-    (streamed (s.grant, h.rows, follows_finished l s.grant s.hold.value s.cause h.is.finished))
+    (line_recalled l s.grant h.rows s.hold.value.number h.recalled (follows_finished l s.grant s.hold.value s.cause h.is.finished))
 headline_held l (Leaving s) h = let k = h.keeps.rows.heard in
-    by_kept l k.turns s.grant.asked.value k.behind k.held k.told (AsksFor s.grant) s.hold h.keeps.attached h.keeps.holds (streamed (s.grant, h.keeps.rows, follows_leaves s.parting l s.grant s.hold h.leaves))
+    by_kept l k.turns s.grant.asked.value k.behind k.held k.told (AsksFor s.grant) s.hold h.keeps.attached h.keeps.holds (line_recalled l s.grant h.keeps.rows s.hold.number h.recalled (follows_leaves s.parting l s.grant s.hold h.leaves))
 headline_held l (Beginning s) h = let k = h.rows.heard in by_unattached l k.turns s.poll.asked.value k.behind k.held k.told h.is
 headline_held l (Denying s) h = let k = h.rows.heard in by_declined l k.turns s.poll.asked.value k.behind k.held k.told (MayPoll s.poll) h.is
 headline_held l (Waiting s) h = let k = h.keeps.rows.heard in
@@ -304,18 +315,18 @@ headline_free l stage t = past_headline l (asked_in stage) (last_of stage t.give
 -- at an end
 
 module _ (l : LiveView) (turns : List Turn) (asked : Asked) (behind : Behind l.charter turns asked) (held : AreHeld l.seat turns) (told : IsPrefix (reports_before turns) l.reports.items) (same : l.reports.items ≡ reports_of (holds_of l.seat)) where
-  stream_says : (g : Grant) → Granting l g → (e : SessionEnd) (y : Why) → HeldEnds l turns g e y → HasHeadline l
-  stream_says g rows e y (full_sent h bytes rest) = by_declined l turns asked behind held told (AsksFor g) h
-  stream_says g rows e y (full_gone h bytes failed) = by_declined l turns asked behind held told (AsksFor g) h
-  stream_says g rows e y (full_wanting h bytes) = by_declined l turns asked behind held told (AsksFor g) h
-  stream_says g rows e y (unattached_wanting h) = by_unattached l turns asked behind held told h
-  stream_says g rows e y (unattached_worn h worn) = by_unattached l turns asked behind held told h
-  stream_says g rows e y (told_sent hold cause h rest) = by_reported l turns asked behind held told (AsksFor g) hold h.own h.attached same (streamed (g, rows, follows_finished l g hold cause h.finished))
-  stream_says g rows e y (told_gone hold cause h failed) = by_reported l turns asked behind held told (AsksFor g) hold h.own h.attached same (streamed (g, rows, follows_finished l g hold cause h.finished))
-  stream_says g rows e y (told_wanting hold cause h) = by_reported l turns asked behind held told (AsksFor g) hold h.own h.attached same (streamed (g, rows, follows_stopped l g hold (Some cause) h.stopped))
-  stream_says g rows e y (kept_worn hold attached own s worn) = by_reported l turns asked behind held told (AsksFor g) hold own attached same (streamed (g, rows, follows_stream l g hold s))
-  stream_says g rows e y (leaving_worn hold parting attached own s worn) = by_reported l turns asked behind held told (AsksFor g) hold own attached same (streamed (g, rows, follows_leaves parting l g hold s))
-  stream_says g rows e y (let_go hold parting attached own detached s) = by_reported l turns asked behind held told (AsksFor g) hold own attached same (streamed (g, rows, follows_left parting l g hold s))
+  stream_says : (g : Grant) (rows : Granting l g) → BeginsTalks l.line (aims_for l g rows) → (e : SessionEnd) (y : Why) → HeldEnds l turns g e y → HasHeadline l
+  stream_says g rows talks e y (full_sent h bytes rest) = by_declined l turns asked behind held told (AsksFor g) h
+  stream_says g rows talks e y (full_gone h bytes failed) = by_declined l turns asked behind held told (AsksFor g) h
+  stream_says g rows talks e y (full_wanting h bytes) = by_declined l turns asked behind held told (AsksFor g) h
+  stream_says g rows talks e y (unattached_wanting h) = by_unattached l turns asked behind held told h
+  stream_says g rows talks e y (unattached_worn h worn) = by_unattached l turns asked behind held told h
+  stream_says g rows talks e y (told_sent hold cause h rest) = by_reported l turns asked behind held told (AsksFor g) hold h.own h.attached same (streamed (record { grant = g; rows = rows; talks = talks; follows = follows_finished l g hold cause h.finished }))
+  stream_says g rows talks e y (told_gone hold cause h failed) = by_reported l turns asked behind held told (AsksFor g) hold h.own h.attached same (streamed (record { grant = g; rows = rows; talks = talks; follows = follows_finished l g hold cause h.finished }))
+  stream_says g rows talks e y (told_wanting hold cause h) = by_reported l turns asked behind held told (AsksFor g) hold h.own h.attached same (streamed (record { grant = g; rows = rows; talks = talks; follows = follows_stopped l g hold (Some cause) h.stopped }))
+  stream_says g rows talks e y (kept_worn hold attached own s worn) = by_reported l turns asked behind held told (AsksFor g) hold own attached same (streamed (record { grant = g; rows = rows; talks = talks; follows = follows_stream l g hold s }))
+  stream_says g rows talks e y (leaving_worn hold parting attached own s worn) = by_reported l turns asked behind held told (AsksFor g) hold own attached same (streamed (record { grant = g; rows = rows; talks = talks; follows = follows_leaves parting l g hold s }))
+  stream_says g rows talks e y (let_go hold parting attached own detached s) = by_reported l turns asked behind held told (AsksFor g) hold own attached same (streamed (record { grant = g; rows = rows; talks = talks; follows = follows_left parting l g hold s }))
 
   poll_says : (p : Poll) → Polling l p → (e : SessionEnd) (y : Why) → PollEnds l turns p e y → HasHeadline l
   poll_says p rows e y (denied_sent h bytes rest) = by_declined l turns asked behind held told (MayPoll p) h
@@ -332,10 +343,14 @@ module _ (l : LiveView) (turns : List Turn) (asked : Asked) (behind : Behind l.c
   poll_says p rows e y (departed now hold parting share attached own detached is asked_for bytes by) =
       by_reported l turns asked behind held told (PollsFor p now) hold own attached same (line_nothing l p rows hold.number share is.there asked_for bytes)
 
+finish_begins : (l : LiveView) (g : Grant) (rows : Granting l g) → HasRecalled l g rows → BeginsTalks l.line (aims_for l g rows)
+finish_begins l g rows (alone row) = begins_alone l.line (aims_for l g rows) row
+finish_begins l g rows (recalled hold last c) = closed_begins l.charter.signer (source_of g c.spec) (aims_for l g rows) c.qs hold.number l.line l.seat c.row
+
 pub headline_end : (l : LiveView) (ended : Ended) → PhaseFinishes l ended → HasHeadline l
 headline_end l ended (inl f) = past_headline l (asked_in f.stage) (hung_up (last_of f.stage f.told.given)) f.told.talks
 headline_end l ended (inr f) = by_kind f.by
   where
     by_kind : StreamFinishes l ended ⊎ PollFinishes l ended → HasHeadline l
-    by_kind (inl s) = stream_says l s.rows.heard.turns s.grant.asked.value s.rows.heard.behind s.rows.heard.held s.rows.heard.told f.reported s.grant s.rows ended.end ended.why s.says
+    by_kind (inl s) = stream_says l s.rows.heard.turns s.grant.asked.value s.rows.heard.behind s.rows.heard.held s.rows.heard.told f.reported s.grant s.rows (finish_begins l s.grant s.rows s.talks) ended.end ended.why s.says
     by_kind (inr p) = poll_says l p.rows.heard.turns p.poll.asked.value p.rows.heard.behind p.rows.heard.held p.rows.heard.told f.reported p.poll p.rows ended.end ended.why p.says

@@ -7,6 +7,7 @@ use Rattle.gp_plain.specs.Fit.{fits}
 use Rattle.gp_plain.specs.Others.{Share}
 use Rattle.gp_plain.specs.Reports.{report}
 use Rattle.gp_plain.specs.Roomy.{Roomy}
+use Rattle.gp_plain.specs.declared.event.Event.{Event}
 use Rattle.gp_plain.specs.declared.event.Event.TheVariants.{Attach}
 use Rattle.gp_plain.specs.declared.event.HoldSpec.{HoldSpec}
 use Rattle.gp_plain.specs.declared.reply.EndCause.{EndCause}
@@ -21,6 +22,8 @@ use Rattle.gp_hub.specs.declared.outcome.SessionEnd.TheVariants as end
 use Rattle.gp_hub.specs.declared.outcome.Why.TheVariants as why
 use Rattle.gp_intake.specs.Polls.{IsGone}
 use Rattle.gp_session.specs.Causes.{HasFailed, HasEnded}
+use Rattle.gp_again.specs.Views.{AgainView}
+use Rattle.gp_session.specs.Lines.{Aim, LineView}
 use Rattle.gp_session.specs.Seats.{SeatView, MovedSeat, SeatRow, IsServed, IsWorn, Busied}
 use Rattle.gp_session.specs.Watches.{WatchView, WatchRow, Uses}
 use Rattle.gp_session.specs.Wires.{WireView, MovedWire, BytesRow, exactly, Flushes}
@@ -28,14 +31,18 @@ use Rattle.gp_session.specs.declared.holding.LetGo.TheVariants as let_go_is
 use Rattle.gp_session.proofs.Moving.{rose_since, sent_same, sent_put, sent_flushed, moved_put, moved_flushed, moved_wire_same, moved_seat_same}
 use Rattle.gp_session_hold.specs.Leaves.{LeavesEntries, LeavesHold, stream_end}
 use Rattle.gp_session_hold.specs.Opens.{OpensTo}
-use Rattle.gp_session_hold.specs.Polls.{PollsStream, last_polled}
+use Rattle.gp_session_hold.specs.Polls.{StreamPends}
 use Rattle.gp_session_hold.specs.Puts.{PutsBehind}
-use Rattle.gp_session_hold.specs.Rows.{KeptView, IsKept, IsReleased, none, kept, over, holds_of, reports_of, HoldsRow, EntriesRow, DetachedRow, AttachRow, IsCounted, stream_text}
+use Rattle.gp_session_hold.specs.Rows.{KeptView, IsKept, IsReleased, none, kept, over, holds_of, reports_of, HoldsRow, EntriesRow, PagedRow, PagesRow, DetachedRow, AttachRow, IsCounted, recovers_at, stream_text}
 use Rattle.gp_session_hold.specs.Streams.{StreamView, Streams, Finished, Stopped}
-use Rattle.gp_session_hold.specs.Unlinked.{without_link}
 use Rattle.gp_session_hold.specs.declared.attaching.Opened.TheVariants as opened
-use Rattle.gp_session_hold.specs.declared.polling.StreamPolled.{StreamPolled}
-use Rattle.gp_session_hold.specs.declared.polling.StreamPolled.TheVariants as polled
+use Rattle.gp_session_hold.proofs.Rowing.{entries_paging, pages_none}
+use Rattle.gp_session_recover.specs.Polls.{ClosedOn, PollsStream, last_polled}
+use Rattle.gp_session_recover.specs.Quests.{Quest}
+use Rattle.gp_session_recover.specs.Rows.{RecoveringView, Recovers, sides}
+use Rattle.gp_session_recover.specs.declared.polling.StreamPolled.{StreamPolled}
+use Rattle.gp_session_recover.specs.declared.polling.StreamPolled.TheVariants as polled
+use Rattle.gp_session_recover.specs.declared.talk.Talk.TheVariants.{None as NoTalk}
 use Rattle.gp_session_hold.proofs.Turning.{finished_flushed}
 use Rattle.gp_session_http.specs.declared.attaching.Attaching.{Attaching as AttachingStage}
 use Rattle.gp_session_http.specs.declared.declining.Declining.{Declining as DecliningStage}
@@ -48,12 +55,14 @@ use Rattle.gp_session_http.specs.declared.grant.Grant.{Grant}
 use Rattle.gp_session_http.specs.declared.held.Held.TheVariants.{Attaching, Declining, Streaming, Closing, Leaving}
 use Rattle.gp_session_http.specs.declared.held.HeldNext.TheVariants.{Go, Wait, End}
 use Rattle.gp_session_http.specs.declared.stage.Ended.{Ended}
-use Rattle.gp_session_http.specs.Grants.{AsksFor, stream_head}
+use Rattle.gp_session_http.specs.Grants.{AsksFor, source_of, stream_head}
 use Rattle.gp_session_http.specs.Turns.{Turn, specs_before}
 use Rattle.gp_session_http.specs.Heard.{IsUnattached, IsDeclined, HasAttached, IsLastHold, full_text, end_of}
-use Rattle.gp_session_http.specs.Holding.{Granting, stream_of, AttachingTold, DecliningTold, Keeps, StreamingTold, LeavesAs, LeavingTold, IsClosed, ClosingTold, EntriesAtEnd, LeftAs, HeldEnds, full_sent, full_gone, full_wanting, unattached_wanting, unattached_worn, told_sent, told_gone, told_wanting, kept_worn, leaving_worn, let_go, HeldLeads, IsAttachedAt, IsDeclinedAt, HasClosed, StopsBy, worn, told, HasStoppedAt, HasLeft, went, stays}
+use Rattle.gp_session_http.specs.Holding.{Granting, Recalled, aims_for, alone, recalled, stream_of, AttachingTold, DecliningTold, Keeps, StreamingTold, LeavesAs, LeavingTold, IsClosed, ClosingTold, EntriesAtEnd, LeftAs, HeldEnds, full_sent, full_gone, full_wanting, unattached_wanting, unattached_worn, told_sent, told_gone, told_wanting, kept_worn, leaving_worn, let_go, HeldLeads, IsAttachedAt, IsDeclinedAt, HasClosed, StopsBy, worn, told, HasStoppedAt, HasLeft, went, stays}
 use Rattle.gp_session_http.specs.Views.{LiveView, Goes}
-use Rattle.gp_session_http.proofs.Granting.{with_held, goes_on, granting_on, granting_wire, granting_seat, calls_on, unattached_same, none_more, same_more, none_reported, none_kept, unlinked_fits, unlinked_again}
+use Rattle.gp_session_http.proofs.Granting.{with_held, goes_on, granting_line, granting_on, granting_wire, granting_seat, calls_on, unattached_same, none_more, same_more, none_reported, none_kept}
+use Rattle.gp_session_http.proofs.Recalling.{closed_first, linked_of, recovers_first}
+use Rattle.gp_session_http.proofs.Rows.{line_same}
 
 -- the hold that was attached last
 
@@ -73,9 +82,6 @@ attached_at v w turns Asks same h = record { spec = h.spec; spec_is = h.spec_is;
 -- the hub was asked for a hold
 
 module _ (v : LiveView) (s : AttachingStage) (told : AttachingTold v s) (t : SeatView) (r : Roomy HoldReport) (moved : MovedSeat v.seat t) (row : SeatRow v.seat → SeatRow t) (items : r.items ≡ v.reports.items) where
-  abbrev asked_for : HoldSpec
-  asked_for = without_link s.spec
-
   abbrev now : LiveView
   now = with_held v v.wire v.watch t r
 
@@ -85,32 +91,34 @@ module _ (v : LiveView) (s : AttachingStage) (told : AttachingTold v s) (t : Sea
   went_on : Goes v now
   went_on = goes_on v v.wire v.watch t r (moved_wire_same v.wire) refl moved
 
-  same_spec : AsksFor s.grant asked_for
-  same_spec = unlinked_again _ s.spec told.spec_is
-
   module _ (entries : EntriesRow v.seat → EntriesRow t) where
-    pub attached : (hold : KeptView) → OpensTo v.seat t asked_for r.spare (opened.Kept hold) → HoldsRow t r.items (kept hold) → AttachRow t (specs_before told.rows.heard.turns ++ asked_for ∷ []) None → IsAttachedAt now s.grant s.head hold
+    pub attached : (hold : KeptView) → OpensTo v.seat t s.spec r.spare (opened.Kept hold) → HoldsRow t r.items (kept hold) → AttachRow t (specs_before told.rows.heard.turns ++ s.spec ∷ []) None → IsAttachedAt now s.grant s.head s.again hold
     attached hold o holds attaches = record {
       keeps = record {
         rows = rows;
-        attached = record { spec = asked_for; spec_is = same_spec; attaches = attaches };
-        entries = entries told.is.entries;
+        attached = record { spec = s.spec; spec_is = told.spec_is; attaches = attaches };
+        entries = entries_paging t (entries told.is.entries);
         holds = holds;
         room = o.room_is;
       };
+      alone = told.alone;
       served = o.served.free;
       head_is = told.head;
-      share = fresh_share v.seat.pass.number asked_for;
+      share = fresh_share v.seat.pass.number s.spec;
       is = o.is;
       untaken = refl;
-      unlinked = o.unlinked;
+      unmissed = refl;
+      spec_is = told.spec_is;
+      again_is = told.again;
+      pages = pages_none t (entries told.is.entries);
       bytes = told.is.bytes;
     }
 
-    pub declined : OpensTo v.seat t asked_for r.spare opened.Full → HoldsRow t r.items none → AttachRow t (specs_before told.rows.heard.turns) (Some asked_for) → IsDeclinedAt now s.grant
+    pub declined : OpensTo v.seat t s.spec r.spare opened.Full → HoldsRow t r.items none → AttachRow t (specs_before told.rows.heard.turns) (Some s.spec) → IsDeclinedAt now s.grant
     declined o holds attaches = record {
       rows = rows;
-      is = record { spec = asked_for; spec_is = same_spec; entries = entries told.is.entries; attaches = attaches; holds = holds };
+      alone = told.alone;
+      is = record { spec = s.spec; spec_is = told.spec_is; entries = entries told.is.entries; attaches = attaches; holds = holds };
       served = o.free;
       bytes = told.is.bytes;
     }
@@ -119,39 +127,40 @@ module _ (v : LiveView) (s : AttachingStage) (told : AttachingTold v s) (t : Sea
     still_unattached : IsUnattached now told.rows.heard.turns
     still_unattached = unattached_same v t r v.watch told.rows.heard.turns (entries told.is.entries) attaches holds told.is
 
-    pub still_busy : (back : HoldSpec) → OpensTo v.seat t asked_for r.spare (opened.Busy back) → HeldLeads v now 3 (Wait (Attaching (record { grant = s.grant; head = s.head; spec = back })))
+    pub still_busy : (back : HoldSpec) → OpensTo v.seat t s.spec r.spare (opened.Busy back) → HeldLeads v now 3 (Wait (Attaching (record { grant = s.grant; head = s.head; spec = back; again = s.again })))
     still_busy back o = record {
       moved = went_on;
       to = (
         record {
           rows = rows;
+          alone = told.alone;
           is = still_unattached;
           served = o.1.free;
-          spec_is = subst (AsksFor s.grant) (sym o.0) same_spec;
-          fit = subst (λ (x : HoldSpec). fits (Attach x) ≡ true) (sym o.0) (unlinked_fits s.spec ∙ told.fit);
+          spec_is = subst (AsksFor s.grant) (sym o.0) told.spec_is;
+          fit = subst (λ (x : HoldSpec). fits (Attach x) ≡ true) (sym o.0) told.fit;
           head = told.head;
+          again = subst (λ (x : HoldSpec). s.again ≡ source_of s.grant x) (sym o.0) told.again;
         },
         o.1.busy,
       );
     }
 
-    finished : (e : SessionEnd) → EntriesAtEnd e t → HeldEnds now told.rows.heard.turns s.grant e why.Nothing → (ended : Ended) → ended ≡ record { end = e; why = why.Nothing } → HeldLeads v now 3 (End ended)
+    finished : (e : SessionEnd) → EntriesAtEnd true e t → HeldEnds now told.rows.heard.turns s.grant e why.Nothing → (ended : Ended) → ended ≡ record { end = e; why = why.Nothing } → HeldLeads v now 3 (End ended)
     finished e at says ended is = subst (λ (x : Ended). HeldLeads v now 3 (End x)) (sym is) (record {
       moved = went_on;
       to = record {
         seat = rows.heard.seat;
-        entries = at;
         reported = none_reported now holds;
         released = λ _. none_kept now holds;
-        by = inl (record { grant = s.grant; rows = rows; says = says });
+        by = inl (record { grant = s.grant; rows = rows; entries = at; talks = alone told.alone; says = says });
       };
     })
 
-    pub attach_worn : OpensTo v.seat t asked_for r.spare opened.Worn → (ended : Ended) → ended ≡ record { end = end.Worn; why = why.Nothing } → HeldLeads v now 3 (End ended)
-    attach_worn o ended is = finished end.Worn (entries told.is.entries) (unattached_worn still_unattached o.worn) ended is
+    pub attach_worn : OpensTo v.seat t s.spec r.spare opened.Worn → (ended : Ended) → ended ≡ record { end = end.Worn; why = why.Nothing } → HeldLeads v now 3 (End ended)
+    attach_worn o ended is = finished end.Worn (entries_paging t (entries told.is.entries)) (unattached_worn still_unattached o.worn) ended is
 
-    pub attach_wants : OpensTo v.seat t asked_for r.spare opened.NoMemory → (ended : Ended) → ended ≡ record { end = end.NoMemory; why = why.Nothing } → HeldLeads v now 3 (End ended)
-    attach_wants o ended is = finished end.NoMemory (inl (entries told.is.entries)) (unattached_wanting still_unattached) ended is
+    pub attach_wants : OpensTo v.seat t s.spec r.spare opened.NoMemory → (ended : Ended) → ended ≡ record { end = end.NoMemory; why = why.Nothing } → HeldLeads v now 3 (End ended)
+    attach_wants o ended is = finished end.NoMemory (inl (entries_paging t (entries told.is.entries))) (unattached_wanting still_unattached) ended is
 
 -- the client's end alone moved
 
@@ -165,29 +174,41 @@ module _ (v : LiveView) (x : WireView) (moved : MovedWire v.wire x) (received : 
   pub declined_still : (turns : List Turn) (Asks : HoldSpec → Type 0) → IsDeclined v turns Asks → IsDeclined with_client turns Asks
   declined_still turns Asks h = record { spec = h.spec; spec_is = h.spec_is; entries = h.entries; attaches = h.attaches; holds = h.holds }
 
-  keeps_still : (g : Grant) (hold : KeptView) → Keeps v g hold → Keeps with_client g hold
+  abbrev keeps_still : (g : Grant) (hold : KeptView) → Keeps v g hold → Keeps with_client g hold
   keeps_still g hold k = record { rows = granting_wire v x g k.rows moved received; attached = attached_at v with_client k.rows.heard.turns (AsksFor g) refl k.attached; entries = k.entries; holds = k.holds; room = k.room }
 
 -- the stream begins
-module _ (v : LiveView) (g : Grant) (head : List ℕ) (hold : KeptView) (h : IsAttachedAt v g head hold) (x : WireView) where
-  pub begins_stream : (stream : StreamView) → stream ≡ record { hold = hold; chunked = g.chunked; head = head } → PutsBehind v.wire x head → Streams stream x v.seat
-      → HeldLeads v (with_held v x v.watch v.seat v.reports) 3 (Go (Streaming (record { grant = g; stream = stream })))
-  begins_stream stream is puts streams =
+module _ (v : LiveView) (g : Grant) (head : List ℕ) (again : Option AgainView) (hold : KeptView) (h : IsAttachedAt v g head again hold) (x : WireView) where
+  begins_at : PutsBehind v.wire x head → Streams (record { hold = hold; chunked = g.chunked; head = head }) x v.seat
+      → HeldLeads v (with_held v x v.watch v.seat v.reports) 3 (Go (Streaming (record { grant = g; recovering = record { stream = record { hold = hold; chunked = g.chunked; head = head }; again = again; talk = NoTalk } })))
+  begins_at puts streams =
       let moved = moved_put v.wire x puts.start puts.link in
       let received = ap (λ (t : LinkTells). t.received) puts.link in
       record {
         moved = went_client v x moved received;
         to = (
           record {
-            keeps = subst (Keeps (with_held v x v.watch v.seat v.reports) g) (sym (ap (λ (y : StreamView). y.hold) is)) (keeps_still v x moved received g hold h.keeps);
+            keeps = keeps_still v x moved received g hold h.keeps;
             served = h.served;
-            framed = is ∙ ap (λ (b : List ℕ). record { hold = hold; chunked = g.chunked; head = b }) h.head_is ∙ ap (λ (k : KeptView). record { hold = k; chunked = g.chunked; head = stream_head g }) (sym (ap (λ (y : StreamView). y.hold) is));
+            framed = ap (λ (b : List ℕ). record { hold = hold; chunked = g.chunked; head = b }) h.head_is;
             streams = streams;
+            recalls = record {
+              spec = h.share.spec;
+              spec_is = h.spec_is;
+              qs = [];
+              row = recovers_first v.charter.signer (source_of g h.share.spec) (aims_for v g h.keeps.rows) v.line v.seat hold h.share h.is.there h.unmissed h.pages h.alone (linked_of g h.share.spec h.spec_is) g.chunked head again h.again_is x;
+            };
           },
           omega arith,
           tt,
         );
       }
+
+  pub begins_stream : (stream : StreamView) → stream ≡ record { hold = hold; chunked = g.chunked; head = head } → PutsBehind v.wire x head → Streams stream x v.seat → (recovering : RecoveringView) → recovering ≡ record { stream = stream; again = again; talk = NoTalk }
+      → HeldLeads v (with_held v x v.watch v.seat v.reports) 3 (Go (Streaming (record { grant = g; recovering = recovering })))
+  begins_stream stream is puts streams recovering whole =
+      subst (λ (r : RecoveringView). HeldLeads v (with_held v x v.watch v.seat v.reports) 3 (Go (Streaming (record { grant = g; recovering = r })))) (sym (whole ∙ ap (λ (y : StreamView). record { stream = y; again = again; talk = NoTalk }) is))
+      (begins_at puts (subst (λ (y : StreamView). Streams y x v.seat) is streams))
 
   pub begins_not : x ≡ v.wire → (back : KeptView) → back ≡ hold → HeldLeads v (with_held v x v.watch v.seat v.reports) 3 (Go (Leaving (record { grant = g; hold = back; parting = Wanting })))
   begins_not same back is = subst (λ (k : KeptView). HeldLeads v (with_held v x v.watch v.seat v.reports) 3 (Go (Leaving (record { grant = g; hold = k; parting = Wanting })))) (sym is)
@@ -198,6 +219,12 @@ module _ (v : LiveView) (g : Grant) (head : List ℕ) (hold : KeptView) (h : IsA
             keeps = keeps_still v v.wire (moved_wire_same v.wire) refl g hold h.keeps;
             served = h.served;
             leaves = record { share = h.share; is = h.is; part = []; is_part = (stream_text g.chunked (stream_head g) h.share.taken None, refl); bytes = h.bytes };
+            recalled = record {
+              spec = h.share.spec;
+              spec_is = h.spec_is;
+              qs = [];
+              row = closed_first v.charter.signer (source_of g h.share.spec) (aims_for v g h.keeps.rows) v.line v.seat hold h.share h.is.there h.unmissed h.pages h.alone;
+            };
           },
           omega arith,
           tt,
@@ -218,6 +245,7 @@ module _ (v : LiveView) (g : Grant) (h : IsDeclinedAt v g) (x : WireView) (start
     to = (
       record {
         rows = granting_wire v x g h.rows moved_here received_here;
+        alone = h.alone;
         is = declined_still v x moved_here received_here h.rows.heard.turns (AsksFor g) h.is;
         served = h.served;
         bytes = sent_put v.wire x [] full_text h.bytes start link rest;
@@ -232,10 +260,9 @@ module _ (v : LiveView) (g : Grant) (h : IsDeclinedAt v g) (x : WireView) (start
     moved = went_client v x moved_here received_here;
     to = record {
       seat = h.rows.heard.seat;
-      entries = inl h.is.entries;
       reported = none_reported v h.is.holds;
       released = λ _. none_kept v h.is.holds;
-      by = inl (record { grant = g; rows = granting_wire v x g h.rows moved_here received_here; says = full_wanting (declined_still v x moved_here received_here h.rows.heard.turns (AsksFor g) h.is) (sent_same v.wire x [] h.bytes start (ap (λ (t : LinkTells). t.sent) link) rest) });
+      by = inl (record { grant = g; rows = granting_wire v x g h.rows moved_here received_here; entries = inl (entries_paging v.seat h.is.entries); talks = alone h.alone; says = full_wanting (declined_still v x moved_here received_here h.rows.heard.turns (AsksFor g) h.is) (sent_same v.wire x [] h.bytes start (ap (λ (t : LinkTells). t.sent) link) rest) });
     };
   })
 
@@ -254,25 +281,24 @@ module _ (v : LiveView) (s : DecliningStage) (h : DecliningTold v s) (x : WireVi
   still_said : BytesRow x (exactly full_text)
   still_said = sent_flushed v.wire x full_text f h.bytes fl
 
-  declined_end : (e : SessionEnd) → EntriesAtEnd e v.seat → HeldEnds sent_now h.rows.heard.turns s.grant e why.Full → (ended : Ended) → ended ≡ record { end = e; why = why.Full } → HeldLeads v sent_now 1 (End ended)
+  declined_end : (e : SessionEnd) → EntriesAtEnd true e v.seat → HeldEnds sent_now h.rows.heard.turns s.grant e why.Full → (ended : Ended) → ended ≡ record { end = e; why = why.Full } → HeldLeads v sent_now 1 (End ended)
   declined_end e entries says ended is = subst (λ (y : Ended). HeldLeads v sent_now 1 (End y)) (sym is) (record {
     moved = went_client v x flush_moved fl.passed.received;
     to = record {
       seat = h.rows.heard.seat;
-      entries = entries;
       reported = none_reported v h.is.holds;
       released = λ _. none_kept v h.is.holds;
-      by = inl (record { grant = s.grant; rows = granting_wire v x s.grant h.rows flush_moved fl.passed.received; says = says });
+      by = inl (record { grant = s.grant; rows = granting_wire v x s.grant h.rows flush_moved fl.passed.received; entries = entries; talks = alone h.alone; says = says });
     };
   })
 
 pub declining_sent : (v : LiveView) (s : DecliningStage) (h : DecliningTold v s) (x : WireView) → Flushes v.wire x flushed.Empty → (ended : Ended) → ended ≡ record { end = end.Sent 503; why = why.Full } → HeldLeads v (with_held v x v.watch v.seat v.reports) 1 (End ended)
 declining_sent v s h x fl ended is =
-    declined_end v s h x flushed.Empty fl (end.Sent 503) h.is.entries (full_sent (still_declined v s h x flushed.Empty fl) (still_said v s h x flushed.Empty fl) fl.cause.0) ended is
+    declined_end v s h x flushed.Empty fl (end.Sent 503) (entries_paging v.seat h.is.entries) (full_sent (still_declined v s h x flushed.Empty fl) (still_said v s h x flushed.Empty fl) fl.cause.0) ended is
 
 pub declining_gone : (v : LiveView) (s : DecliningStage) (h : DecliningTold v s) (x : WireView) → Flushes v.wire x flushed.Failed → (ended : Ended) → ended ≡ record { end = end.ClientGone; why = why.Full } → HeldLeads v (with_held v x v.watch v.seat v.reports) 1 (End ended)
 declining_gone v s h x fl ended is =
-    declined_end v s h x flushed.Failed fl end.ClientGone (inl h.is.entries)
+    declined_end v s h x flushed.Failed fl end.ClientGone (inl (entries_paging v.seat h.is.entries))
     (full_gone (still_declined v s h x flushed.Failed fl) (still_said v s h x flushed.Failed fl) (rose_since v.wire x (λ (t : LinkTells). t.faults) fl.start h.rows.heard.links.faults fl.cause.1)) ended is
 
 pub declining_waits : (v : LiveView) (s : DecliningStage) (h : DecliningTold v s) (x : WireView) → Flushes v.wire x flushed.NotReady → HeldLeads v (with_held v x v.watch v.seat v.reports) 1 (Wait (Declining s))
@@ -281,6 +307,7 @@ declining_waits v s h x fl = record {
   to = (
     record {
       rows = granting_wire v x s.grant h.rows (moved_flushed v.wire x flushed.NotReady fl) fl.passed.received;
+      alone = h.alone;
       is = still_declined v s h x flushed.NotReady fl;
       served = h.served;
       bytes = still_said v s h x flushed.NotReady fl;
@@ -293,7 +320,7 @@ module _ (v : LiveView) (s : ClosingStage) (h : ClosingTold v s) (x : WireView) 
   abbrev closed_now : LiveView
   closed_now = with_held v x v.watch v.seat v.reports
 
-  close_moved : MovedWire v.wire x
+  abbrev close_moved : MovedWire v.wire x
   close_moved = moved_flushed v.wire x f fl
 
   still_closed : IsClosed closed_now h.rows.heard.turns s.grant s.hold.value s.cause
@@ -305,19 +332,27 @@ module _ (v : LiveView) (s : ClosingStage) (h : ClosingTold v s) (x : WireView) 
     finished = finished_flushed (stream_of s.grant s.hold.value) v.wire x v.seat s.cause f fl h.is.finished;
   }
 
-  closed_end : (e : SessionEnd) → EntriesAtEnd e v.seat → HeldEnds closed_now h.rows.heard.turns s.grant e why.Nothing → (ended : Ended) → ended ≡ record { end = e; why = why.Nothing } → HeldLeads v closed_now 1 (End ended)
+  still_recalled : Recalled closed_now s.grant (granting_wire v x s.grant h.rows close_moved fl.passed.received) s.hold.value.number
+  still_recalled = record { spec = h.recalled.spec; spec_is = h.recalled.spec_is; qs = h.recalled.qs; row = h.recalled.row }
+
+  closed_end : (e : SessionEnd) → EntriesAtEnd true e v.seat → HeldEnds closed_now h.rows.heard.turns s.grant e why.Nothing → (ended : Ended) → ended ≡ record { end = e; why = why.Nothing } → HeldLeads v closed_now 1 (End ended)
   closed_end e entries says ended is = subst (λ (y : Ended). HeldLeads v closed_now 1 (End y)) (sym is) (record {
     moved = went_client v x close_moved fl.passed.received;
     to = record {
       seat = h.rows.heard.seat;
-      entries = entries;
       reported = none_reported v h.is.holds;
       released = λ _. none_kept v h.is.holds;
-      by = inl (record { grant = s.grant; rows = granting_wire v x s.grant h.rows close_moved fl.passed.received; says = says });
+      by = inl (record {
+        grant = s.grant;
+        rows = granting_wire v x s.grant h.rows close_moved fl.passed.received;
+        entries = entries;
+        talks = recalled s.hold.value still_closed.own still_recalled;
+        says = says;
+      });
     };
   })
 
-entries_by_end : (code : ℕ) (cause : EndCause) (s : SeatView) → EntriesRow s → EntriesAtEnd (stream_end code cause) s
+entries_by_end : (code : ℕ) (cause : EndCause) (s : SeatView) → PagedRow s → EntriesAtEnd true (stream_end code cause) s
 entries_by_end code cause_is.Closed s e = e
 entries_by_end code cause_is.Detached s e = e
 entries_by_end code cause_is.Gap s e = e
@@ -346,156 +381,189 @@ closing_waits v s h x fl = record {
       rows = granting_wire v x s.grant h.rows (moved_flushed v.wire x flushed.NotReady fl) fl.passed.received;
       served = h.served;
       is = still_closed v s h x flushed.NotReady fl;
+      recalled = still_recalled v s h x flushed.NotReady fl;
     },
     record { some = fl.cause.0; waited = fl.cause.1 },
   );
 }
 
--- the client was heard, and what the hold gave was delivered
+-- the client was heard, what the hold gave was delivered, and the origin was asked for what was missed
 
-module _ (v : LiveView) (s : StreamingStage) (h : StreamingTold v s) (u : WatchView) (now : ℕ) (uses : Uses v.watch u now) (times : WatchRow v.watch → WatchRow u) (y : StreamView) (x : WireView) (t : SeatView) (answer : StreamPolled) (p : PollsStream s.stream y v.wire x v.seat t now answer) where
+-- all ends moved
+abbrev pub with_streamed : LiveView → WireView → LineView → WatchView → SeatView → LiveView
+with_streamed v x m u t = record { wire = x; line = m; watch = u; seat = t; charter = v.charter; reports = v.reports }
+
+module _ (v : LiveView) (s : StreamingStage) (h : StreamingTold v s) (u : WatchView) (now : ℕ) (uses : Uses v.watch u now) (times : WatchRow v.watch → WatchRow u) (y : RecoveringView) (x : WireView) (m : LineView) (t : SeatView) (answer : StreamPolled)
+    (p : PollsStream v.charter.signer now (sides s.recovering v.wire v.line v.seat) (sides y x m t) answer) where
   abbrev polled_now : LiveView
-  polled_now = with_held v x u t v.reports
+  polled_now = with_streamed v x m u t
 
   abbrev pub polled_stage : StreamingStage
-  polled_stage = record { grant = s.grant; stream = y }
+  polled_stage = record { grant = s.grant; recovering = y }
 
   pub stream_went : Goes v polled_now
-  stream_went = goes_on v x u t v.reports p.wire uses.moved.start p.seat
+  stream_went = record { wire = p.hears.wire; line = p.hears.line; watch = uses.moved.start; seat = p.hears.seat; charter = refl }
 
   abbrev stream_rows : Granting polled_now s.grant
-  stream_rows = granting_on v x u t v.reports s.grant h.keeps.rows p.wire p.heard p.received (calls_on v.watch u now uses h.keeps.rows.heard.calls) (times h.keeps.rows.heard.times) p.seat p.row (none_more v.reports.items)
+  stream_rows = granting_line (with_held v x u t v.reports) m s.grant
+      (granting_on v x u t v.reports s.grant h.keeps.rows p.hears.wire p.hears.heard p.hears.received (calls_on v.watch u now uses h.keeps.rows.heard.calls) (times h.keeps.rows.heard.times) p.hears.seat p.hears.row (none_more v.reports.items)) p.hears.line
 
   stream_attached : HasAttached polled_now h.keeps.rows.heard.turns (AsksFor s.grant)
-  stream_attached = record { spec = h.keeps.attached.spec; spec_is = h.keeps.attached.spec_is; attaches = p.attaches (specs_before h.keeps.rows.heard.turns ++ h.keeps.attached.spec ∷ []) None h.keeps.attached.attaches }
+  stream_attached = record {
+    spec = h.keeps.attached.spec;
+    spec_is = h.keeps.attached.spec_is;
+    attaches = p.hears.attaches (specs_before h.keeps.rows.heard.turns ++ h.keeps.attached.spec ∷ []) None h.keeps.attached.attaches;
+  }
 
-  stream_framed : y ≡ stream_of s.grant y.hold
+  stream_framed : y.stream ≡ stream_of s.grant y.stream.hold
   stream_framed =
-      let chunked : y.chunked ≡ s.grant.chunked = p.chunked ∙ ap (λ (z : StreamView). z.chunked) h.framed in
-      let head : y.head ≡ stream_head s.grant = p.head ∙ ap (λ (z : StreamView). z.head) h.framed in
-      ap (λ (b : Bool). record { hold = y.hold; chunked = b; head = y.head }) chunked ∙ ap (λ (b : List ℕ). record { hold = y.hold; chunked = s.grant.chunked; head = b }) head
+      let chunked : y.stream.chunked ≡ s.grant.chunked = p.hears.chunked ∙ ap (λ (z : StreamView). z.chunked) h.framed in
+      let head : y.stream.head ≡ stream_head s.grant = p.hears.head ∙ ap (λ (z : StreamView). z.head) h.framed in
+      ap (λ (b : Bool). record { hold = y.stream.hold; chunked = b; head = y.stream.head }) chunked ∙ ap (λ (b : List ℕ). record { hold = y.stream.hold; chunked = s.grant.chunked; head = b }) head
 
-  still_keeps : HoldsRow t v.reports.items (kept y.hold) → Keeps polled_now s.grant y.hold
-  still_keeps holds = record { rows = stream_rows; attached = stream_attached; entries = p.entries h.keeps.entries; holds = holds; room = h.keeps.room }
+  abbrev still_keeps : HoldsRow t v.reports.items (kept y.stream.hold) → Keeps polled_now s.grant y.stream.hold
+  still_keeps holds = record { rows = stream_rows; attached = stream_attached; entries = p.hears.entries h.keeps.entries; holds = holds; room = h.keeps.room }
 
-  here : HoldsRow t v.reports.items (last_polled y.hold answer)
+  abbrev here : HoldsRow t v.reports.items (last_polled y.stream.hold answer)
   here = p.holds v.reports.items h.keeps.holds
 
-pub streaming_waits : (v : LiveView) (s : StreamingStage) (h : StreamingTold v s) (u : WatchView) (now : ℕ) (uses : Uses v.watch u now) (times : WatchRow v.watch → WatchRow u) (y : StreamView) (x : WireView) (t : SeatView)
-    (p : PollsStream s.stream y v.wire x v.seat t now polled.Pending) → HeldLeads v (with_held v x u t v.reports) 2 (Wait (Streaming (record { grant = s.grant; stream = y })))
-streaming_waits v s h u now uses times y x t p = record {
-  moved = stream_went v s h u now uses times y x t polled.Pending p;
-  to = (
-    record {
-      keeps = still_keeps v s h u now uses times y x t polled.Pending p (here v s h u now uses times y x t polled.Pending p);
-      served = p.serves h.served;
-      framed = stream_framed v s h u now uses times y x t polled.Pending p;
-      streams = p.says.0;
-    },
-    record {
-      wire = v.wire;
-      seat = v.seat;
-      moved_wire = moved_wire_same v.wire;
-      moved_seat = moved_seat_same v.seat;
-      now = now;
-      moment = uses.moment;
-      last = times h.keeps.rows.heard.times now uses.moment;
-      heard = p.heard;
-      received = p.received;
-      pends = p.says.1;
-    },
-  );
-}
-
-pub streaming_ended : (v : LiveView) (s : StreamingStage) (h : StreamingTold v s) (u : WatchView) (now : ℕ) (uses : Uses v.watch u now) (times : WatchRow v.watch → WatchRow u) (y : StreamView) (x : WireView) (t : SeatView) (cause : EndCause)
-    (p : PollsStream s.stream y v.wire x v.seat t now (polled.Ended cause)) → HasClosed (with_held v x u t v.reports) (record { grant = s.grant; stream = y }) cause
-streaming_ended v s h u now uses times y x t cause p = record {
-  rows = stream_rows v s h u now uses times y x t (polled.Ended cause) p;
-  attached = stream_attached v s h u now uses times y x t (polled.Ended cause) p;
-  entries = p.entries h.keeps.entries;
-  holds = here v s h u now uses times y x t (polled.Ended cause) p;
-  room = h.keeps.room;
-  served = p.serves h.served;
-  framed = stream_framed v s h u now uses times y x t (polled.Ended cause) p;
-  finished = p.says;
-}
+  -- the talk is over
+  stream_recalled : ((source : Option AgainView) (aims : List Aim) (qs : List Quest) → Recovers v.charter.signer source aims qs (sides s.recovering v.wire v.line v.seat) → ClosedOn v.charter.signer source aims qs now (sides s.recovering v.wire v.line v.seat) (sides y x m t))
+      → Recalled polled_now s.grant stream_rows y.stream.hold.number
+  stream_recalled closed =
+      let on = closed (source_of s.grant h.recalls.spec) (aims_for v s.grant h.keeps.rows) h.recalls.qs h.recalls.row in
+      record { spec = h.recalls.spec; spec_is = h.recalls.spec_is; qs = h.recalls.qs ++ on.more; row = on.row }
 
 pub is_gone : (v : LiveView) (x : WireView) → LinkLater v.wire.start v.wire.link → MovedWire v.wire x → IsGone v.wire.link x.link → HasFailed x ⊎ HasEnded x
 is_gone v x links moved (inl ends) = inr (rose_since v.wire x (λ (t : LinkTells). t.ends) moved.start links.ends ends)
 is_gone v x links moved (inr faults) = inl (rose_since v.wire x (λ (t : LinkTells). t.faults) moved.start links.faults faults)
 
-pub streaming_gone : (v : LiveView) (s : StreamingStage) (h : StreamingTold v s) (u : WatchView) (now : ℕ) (uses : Uses v.watch u now) (times : WatchRow v.watch → WatchRow u) (y : StreamView) (x : WireView) (t : SeatView)
-    (p : PollsStream s.stream y v.wire x v.seat t now polled.Gone) → HeldLeads v (with_held v x u t v.reports) 2 (Go (Leaving (record { grant = s.grant; hold = y.hold; parting = Gone })))
-streaming_gone v s h u now uses times y x t p = record {
-  moved = stream_went v s h u now uses times y x t polled.Gone p;
-  to = (
-    record {
-      keeps = still_keeps v s h u now uses times y x t polled.Gone p (here v s h u now uses times y x t polled.Gone p);
-      served = p.serves h.served;
-      leaves = (
-        subst (λ (z : StreamView). Streams z x t) (stream_framed v s h u now uses times y x t polled.Gone p) p.says.0,
-        is_gone v x h.keeps.rows.heard.links p.wire p.says.1,
-      );
-    },
-    omega arith,
-    tt,
-  );
-}
-
 -- a stream that goes on has a beginning of its text put
 whole_part : (z : StreamView) (x : WireView) (t : SeatView) → Streams z x t → Stopped z x t None
 whole_part z x t st = record { share = st.share; is = st.is; part = stream_text z.chunked z.head st.share.taken None; is_part = ([], append-nil (stream_text z.chunked z.head st.share.taken None)); bytes = st.bytes }
 
-pub streaming_wants : (v : LiveView) (s : StreamingStage) (h : StreamingTold v s) (u : WatchView) (now : ℕ) (uses : Uses v.watch u now) (times : WatchRow v.watch → WatchRow u) (y : StreamView) (x : WireView) (t : SeatView)
-    (p : PollsStream s.stream y v.wire x v.seat t now polled.NoMemory) → HeldLeads v (with_held v x u t v.reports) 2 (Go (Leaving (record { grant = s.grant; hold = y.hold; parting = Wanting })))
-streaming_wants v s h u now uses times y x t p = record {
-  moved = stream_went v s h u now uses times y x t polled.NoMemory p;
-  to = (
-    record {
-      keeps = still_keeps v s h u now uses times y x t polled.NoMemory p (here v s h u now uses times y x t polled.NoMemory p);
-      served = p.serves h.served;
-      leaves = subst (λ (z : StreamView). Stopped z x t None) (stream_framed v s h u now uses times y x t polled.NoMemory p) (whole_part y x t p.says);
-    },
-    omega arith,
-    tt,
-  );
-}
+module _ (v : LiveView) (s : StreamingStage) (h : StreamingTold v s) (u : WatchView) (now : ℕ) (uses : Uses v.watch u now) (times : WatchRow v.watch → WatchRow u) (y : RecoveringView) (x : WireView) (m : LineView) (t : SeatView) where
+  abbrev Polls : StreamPolled → Type 0
+  Polls answer = PollsStream v.charter.signer now (sides s.recovering v.wire v.line v.seat) (sides y x m t) answer
 
-pub streaming_unput : (v : LiveView) (s : StreamingStage) (h : StreamingTold v s) (u : WatchView) (now : ℕ) (uses : Uses v.watch u now) (times : WatchRow v.watch → WatchRow u) (y : StreamView) (x : WireView) (t : SeatView)
-    (p : PollsStream s.stream y v.wire x v.seat t now (polled.Unput None)) → HeldLeads v (with_held v x u t v.reports) 2 (Go (Leaving (record { grant = s.grant; hold = y.hold; parting = Wanting })))
-streaming_unput v s h u now uses times y x t p = record {
-  moved = stream_went v s h u now uses times y x t (polled.Unput None) p;
-  to = (
-    record {
-      keeps = still_keeps v s h u now uses times y x t (polled.Unput None) p (here v s h u now uses times y x t (polled.Unput None) p);
-      served = p.serves h.served;
-      leaves = subst (λ (z : StreamView). Stopped z x t None) (stream_framed v s h u now uses times y x t (polled.Unput None) p) p.says;
-    },
-    omega arith,
-    tt,
-  );
-}
+  pub streaming_waits : Polls polled.Pending → HeldLeads v (with_streamed v x m u t) 2 (Wait (Streaming (record { grant = s.grant; recovering = y })))
+  streaming_waits p = record {
+    moved = stream_went v s h u now uses times y x m t polled.Pending p;
+    to = (
+      record {
+        keeps = still_keeps v s h u now uses times y x m t polled.Pending p (here v s h u now uses times y x m t polled.Pending p);
+        served = p.says.free h.served;
+        framed = stream_framed v s h u now uses times y x m t polled.Pending p;
+        streams = p.says.streams;
+        recalls =
+            let on = p.says.recovers (source_of s.grant h.recalls.spec) (aims_for v s.grant h.keeps.rows) h.recalls.qs h.recalls.row in
+            record { spec = h.recalls.spec; spec_is = h.recalls.spec_is; qs = h.recalls.qs ++ on.more; row = on.row };
+      },
+      record {
+        waited = record {
+          wire = v.wire;
+          seat = v.seat;
+          moved_wire = moved_wire_same v.wire;
+          moved_seat = moved_seat_same v.seat;
+          now = now;
+          moment = uses.moment;
+          last = times h.keeps.rows.heard.times now uses.moment;
+          heard = p.hears.heard;
+          received = p.hears.received;
+          pends = subst (λ (n : ℕ). StreamPends n now v.wire x v.seat t p.hears.heard) (sym p.hears.number) p.says.pends.0;
+        };
+        line = v.line;
+        moved_line = line_same v.line;
+        talk = p.says.pends.1;
+      },
+    );
+  }
 
-pub streaming_worn : (v : LiveView) (s : StreamingStage) (h : StreamingTold v s) (u : WatchView) (now : ℕ) (uses : Uses v.watch u now) (times : WatchRow v.watch → WatchRow u) (y : StreamView) (x : WireView) (t : SeatView)
-    (p : PollsStream s.stream y v.wire x v.seat t now polled.Worn) → HasStoppedAt (with_held v x u t v.reports) (record { grant = s.grant; stream = y }) None end.Worn
-streaming_worn v s h u now uses times y x t p = record {
-  framed = stream_framed v s h u now uses times y x t polled.Worn p;
-  stops = worn (record { keeps = still_keeps v s h u now uses times y x t polled.Worn p (here v s h u now uses times y x t polled.Worn p); streams = p.says; worn = p.serves });
-}
-
-pub streaming_told : (v : LiveView) (s : StreamingStage) (h : StreamingTold v s) (u : WatchView) (now : ℕ) (uses : Uses v.watch u now) (times : WatchRow v.watch → WatchRow u) (y : StreamView) (x : WireView) (t : SeatView) (cause : EndCause)
-    (p : PollsStream s.stream y v.wire x v.seat t now (polled.Unput (Some cause))) → HasStoppedAt (with_held v x u t v.reports) (record { grant = s.grant; stream = y }) (Some cause) end.NoMemory
-streaming_told v s h u now uses times y x t cause p = record {
-  framed = stream_framed v s h u now uses times y x t (polled.Unput (Some cause)) p;
-  stops = told cause (record {
-    rows = stream_rows v s h u now uses times y x t (polled.Unput (Some cause)) p;
-    attached = stream_attached v s h u now uses times y x t (polled.Unput (Some cause)) p;
-    entries = p.entries h.keeps.entries;
-    holds = here v s h u now uses times y x t (polled.Unput (Some cause)) p;
+  pub streaming_ended : (cause : EndCause) → Polls (polled.Ended cause) → HasClosed (with_streamed v x m u t) (record { grant = s.grant; recovering = y }) cause
+  streaming_ended cause p = record {
+    rows = stream_rows v s h u now uses times y x m t (polled.Ended cause) p;
+    attached = stream_attached v s h u now uses times y x m t (polled.Ended cause) p;
+    entries = p.hears.entries h.keeps.entries;
+    holds = here v s h u now uses times y x m t (polled.Ended cause) p;
     room = h.keeps.room;
-    stopped = p.says;
-  });
-}
+    served = p.says.serves h.served;
+    framed = stream_framed v s h u now uses times y x m t (polled.Ended cause) p;
+    finished = p.says.says;
+    recalled = stream_recalled v s h u now uses times y x m t (polled.Ended cause) p p.says.closed;
+  }
+
+  pub streaming_gone : Polls polled.Gone → HeldLeads v (with_streamed v x m u t) 2 (Go (Leaving (record { grant = s.grant; hold = y.stream.hold; parting = Gone })))
+  streaming_gone p = record {
+    moved = stream_went v s h u now uses times y x m t polled.Gone p;
+    to = (
+      record {
+        keeps = still_keeps v s h u now uses times y x m t polled.Gone p (here v s h u now uses times y x m t polled.Gone p);
+        served = p.says.serves h.served;
+        leaves = (
+          subst (λ (z : StreamView). Streams z x t) (stream_framed v s h u now uses times y x m t polled.Gone p) p.says.says.0,
+          is_gone v x h.keeps.rows.heard.links p.hears.wire p.says.says.1,
+        );
+        recalled = stream_recalled v s h u now uses times y x m t polled.Gone p p.says.closed;
+      },
+      omega arith,
+      tt,
+    );
+  }
+
+  pub streaming_wants : Polls polled.NoMemory → HeldLeads v (with_streamed v x m u t) 2 (Go (Leaving (record { grant = s.grant; hold = y.stream.hold; parting = Wanting })))
+  streaming_wants p = record {
+    moved = stream_went v s h u now uses times y x m t polled.NoMemory p;
+    to = (
+      record {
+        keeps = still_keeps v s h u now uses times y x m t polled.NoMemory p (here v s h u now uses times y x m t polled.NoMemory p);
+        served = p.says.serves h.served;
+        leaves = subst (λ (z : StreamView). Stopped z x t None) (stream_framed v s h u now uses times y x m t polled.NoMemory p) (whole_part y.stream x t p.says.says);
+        recalled = stream_recalled v s h u now uses times y x m t polled.NoMemory p p.says.closed;
+      },
+      omega arith,
+      tt,
+    );
+  }
+
+  pub streaming_unput : Polls (polled.Unput None) → HeldLeads v (with_streamed v x m u t) 2 (Go (Leaving (record { grant = s.grant; hold = y.stream.hold; parting = Wanting })))
+  streaming_unput p = record {
+    moved = stream_went v s h u now uses times y x m t (polled.Unput None) p;
+    to = (
+      record {
+        keeps = still_keeps v s h u now uses times y x m t (polled.Unput None) p (here v s h u now uses times y x m t (polled.Unput None) p);
+        served = p.says.serves h.served;
+        leaves = subst (λ (z : StreamView). Stopped z x t None) (stream_framed v s h u now uses times y x m t (polled.Unput None) p) p.says.says;
+        recalled = stream_recalled v s h u now uses times y x m t (polled.Unput None) p p.says.closed;
+      },
+      omega arith,
+      tt,
+    );
+  }
+
+  pub streaming_worn : Polls polled.Worn → HasStoppedAt (with_streamed v x m u t) (record { grant = s.grant; recovering = y }) None end.Worn
+  streaming_worn p = record {
+    framed = stream_framed v s h u now uses times y x m t polled.Worn p;
+    stops = worn (record {
+      keeps = still_keeps v s h u now uses times y x m t polled.Worn p (here v s h u now uses times y x m t polled.Worn p);
+      streams = p.says.says;
+      worn = p.says.serves;
+      recalled = stream_recalled v s h u now uses times y x m t polled.Worn p p.says.closed;
+    });
+  }
+
+  pub streaming_told : (cause : EndCause) → Polls (polled.Unput (Some cause)) → HasStoppedAt (with_streamed v x m u t) (record { grant = s.grant; recovering = y }) (Some cause) end.NoMemory
+  streaming_told cause p = record {
+    framed = stream_framed v s h u now uses times y x m t (polled.Unput (Some cause)) p;
+    stops = told cause (record {
+      rows = stream_rows v s h u now uses times y x m t (polled.Unput (Some cause)) p;
+      attached = stream_attached v s h u now uses times y x m t (polled.Unput (Some cause)) p;
+      entries = p.hears.entries h.keeps.entries;
+      holds = here v s h u now uses times y x m t (polled.Unput (Some cause)) p;
+      room = h.keeps.room;
+      stopped = p.says.says;
+      recalled = stream_recalled v s h u now uses times y x m t (polled.Unput (Some cause)) p p.says.closed;
+    });
+  }
 
 -- the hold is reported
 
@@ -530,48 +598,64 @@ module _ (v : LiveView) (r : Roomy HoldReport) where
   over_released row = subst (All IsReleased) (sym row.stands) row.released
 
   abbrev Closes : Grant → KeptView → EndCause → Type 0
-  Closes g k d = (rows : Granting reported_now g) × IsClosed reported_now rows.heard.turns g k d
+  Closes g k d = (rows : Granting reported_now g) × IsClosed reported_now rows.heard.turns g k d × Recalled reported_now g rows k.number
 
-  pub closes : (s : StreamingStage) (cause : EndCause) → HasClosed v s cause → HoldsRow v.seat r.items none → IsPrefix v.reports.items r.items → (c : ClosingStage) → c.grant ≡ s.grant → c.hold.value ≡ s.stream.hold → c.cause ≡ cause → HeldLeads v reported_now 2 (Go (Closing c))
+  -- what was asked stays so
+  reported_recalled : (g : Grant) (h : Granting v g) (more : IsPrefix v.reports.items r.items) (hold : ℕ) → Recalled v g h hold → Recalled reported_now g (reported_rows g h more) hold
+  reported_recalled g h more hold c = record { spec = c.spec; spec_is = c.spec_is; qs = c.qs; row = c.row }
+
+  pub closes : (s : StreamingStage) (cause : EndCause) → HasClosed v s cause → HoldsRow v.seat r.items none → IsPrefix v.reports.items r.items → (c : ClosingStage) → c.grant ≡ s.grant → c.hold.value ≡ s.recovering.stream.hold → c.cause ≡ cause → HeldLeads v reported_now 2 (Go (Closing c))
   closes s cause h row more c grant hold is = record { moved = reported_went; to = (told_now, omega arith, tt) }
     where
-      by_parts : (g : Grant) (k : KeptView) (d : EndCause) → g ≡ s.grant → k ≡ s.stream.hold → d ≡ cause → Closes g k d
+      by_parts : (g : Grant) (k : KeptView) (d : EndCause) → g ≡ s.grant → k ≡ s.recovering.stream.hold → d ≡ cause → Closes g k d
       by_parts g k d e1 e2 e3 =
           subst (λ (a : Grant). Closes a k d) (sym e1)
-          (subst (λ (a : KeptView). Closes s.grant a d) (sym e2) (subst (λ (a : EndCause). Closes s.grant s.stream.hold a) (sym e3) (
+          (subst (λ (a : KeptView). Closes s.grant a d) (sym e2) (subst (λ (a : EndCause). Closes s.grant s.recovering.stream.hold a) (sym e3) (
             reported_rows s.grant h.rows more,
             record {
               attached = attached_at v reported_now h.rows.heard.turns (AsksFor s.grant) refl h.attached;
-              own = last_at v reported_now s.stream.hold refl (over_last v v.reports.items s.stream.hold (Some cause) h.holds);
+              own = last_at v reported_now s.recovering.stream.hold refl (over_last v v.reports.items s.recovering.stream.hold (Some cause) h.holds);
               entries = h.entries;
               holds = row;
               finished = subst (λ (z : StreamView). Finished z v.wire v.seat cause) h.framed h.finished;
             },
+            reported_recalled s.grant h.rows more s.recovering.stream.hold.number h.recalled,
           )))
 
       told_now : ClosingTold reported_now c
-      told_now = let both = by_parts c.grant c.hold.value c.cause grant hold is in record { rows = both.0; served = h.served; is = both.1 }
+      told_now = let both = by_parts c.grant c.hold.value c.cause grant hold is in record { rows = both.0; served = h.served; is = both.1; recalled = both.2 }
 
-  reported_end : (n : ℕ) (g : Grant) (e : SessionEnd) (rows : Granting v g) → IsPrefix v.reports.items r.items → EntriesAtEnd e v.seat → r.items ≡ reports_of (holds_of v.seat) → (e ≢ end.Worn → All IsReleased (holds_of v.seat)) → HeldEnds reported_now rows.heard.turns g e why.Nothing
+  reported_end : (n : ℕ) (g : Grant) (e : SessionEnd) (rows : Granting v g) → IsPrefix v.reports.items r.items → (hold : KeptView) → IsLastHold v hold → Recalled v g rows hold.number → EntriesAtEnd true e v.seat → r.items ≡ reports_of (holds_of v.seat) → (e ≢ end.Worn → All IsReleased (holds_of v.seat)) → HeldEnds reported_now rows.heard.turns g e why.Nothing
       → (ended : Ended) → ended ≡ record { end = e; why = why.Nothing } → HeldLeads v reported_now n (End ended)
-  reported_end n g e h more entries all released says ended is = subst (λ (y : Ended). HeldLeads v reported_now n (End y)) (sym is) (record {
+  reported_end n g e h more hold last asked entries all released says ended is = subst (λ (y : Ended). HeldLeads v reported_now n (End y)) (sym is) (record {
     moved = reported_went;
-    to = record { seat = h.heard.seat; entries = entries; reported = all; released = released; by = inl (record { grant = g; rows = reported_rows g h more; says = says }) };
+    to = record {
+      seat = h.heard.seat;
+      reported = all;
+      released = released;
+      by = inl (record {
+        grant = g;
+        rows = reported_rows g h more;
+        entries = entries;
+        talks = recalled hold (last_at v reported_now hold refl last) (reported_recalled g h more hold.number asked);
+        says = says;
+      });
+    };
   })
 
   pub stops_by : (s : StreamingStage) (end_told : Option EndCause) (e : SessionEnd) → HasStoppedAt v s end_told e
-      → ((share : Share) → IsCounted s.stream.hold share → end_told ≡ share.told → r.items ≡ v.reports.items ++ report s.stream.hold.number share ∷ []) → (HoldsRow v.seat v.reports.items (over s.stream.hold end_told) → HoldsRow v.seat r.items none)
+      → ((share : Share) → IsCounted s.recovering.stream.hold share → end_told ≡ share.told → r.items ≡ v.reports.items ++ report s.recovering.stream.hold.number share ∷ []) → (HoldsRow v.seat v.reports.items (over s.recovering.stream.hold end_told) → HoldsRow v.seat r.items none)
       → (ended : Ended) → ended ≡ record { end = e; why = why.Nothing } → HeldLeads v reported_now 2 (End ended)
   stops_by s end_told e h says row ended is = by_kind end_told e h.stops says row ended is
     where
-      by_kind : (o : Option EndCause) (d : SessionEnd) → StopsBy v s o d → ((share : Share) → IsCounted s.stream.hold share → o ≡ share.told → r.items ≡ v.reports.items ++ report s.stream.hold.number share ∷ [])
-          → (HoldsRow v.seat v.reports.items (over s.stream.hold o) → HoldsRow v.seat r.items none) → (ended : Ended) → ended ≡ record { end = d; why = why.Nothing } → HeldLeads v reported_now 2 (End ended)
-      by_kind o d (worn w) tells on ended is = reported_end 2 s.grant end.Worn w.keeps.rows (kept_more s.stream.hold w.keeps.holds tells) w.keeps.entries (kept_reported s.stream.hold w.keeps.holds tells) (λ no. absurd (no refl))
-          (kept_worn s.stream.hold (attached_at v reported_now w.keeps.rows.heard.turns (AsksFor s.grant) refl w.keeps.attached) (last_at v reported_now s.stream.hold refl (kept_last v v.reports.items s.stream.hold w.keeps.holds)) (subst (λ (z : StreamView). Streams z v.wire v.seat) h.framed w.streams) w.worn) ended is
-      by_kind o d (told cause k) tells on ended is = reported_end 2 s.grant end.NoMemory k.rows (over_more s.stream.hold (Some cause) k.holds tells) (inl k.entries) (over_reported (on k.holds)) (λ _. over_released (on k.holds))
-          (told_wanting s.stream.hold cause (record {
+      by_kind : (o : Option EndCause) (d : SessionEnd) → StopsBy v s o d → ((share : Share) → IsCounted s.recovering.stream.hold share → o ≡ share.told → r.items ≡ v.reports.items ++ report s.recovering.stream.hold.number share ∷ [])
+          → (HoldsRow v.seat v.reports.items (over s.recovering.stream.hold o) → HoldsRow v.seat r.items none) → (ended : Ended) → ended ≡ record { end = d; why = why.Nothing } → HeldLeads v reported_now 2 (End ended)
+      by_kind o d (worn w) tells on ended is = reported_end 2 s.grant end.Worn w.keeps.rows (kept_more s.recovering.stream.hold w.keeps.holds tells) s.recovering.stream.hold (kept_last v v.reports.items s.recovering.stream.hold w.keeps.holds) w.recalled w.keeps.entries (kept_reported s.recovering.stream.hold w.keeps.holds tells) (λ no. absurd (no refl))
+          (kept_worn s.recovering.stream.hold (attached_at v reported_now w.keeps.rows.heard.turns (AsksFor s.grant) refl w.keeps.attached) (last_at v reported_now s.recovering.stream.hold refl (kept_last v v.reports.items s.recovering.stream.hold w.keeps.holds)) (subst (λ (z : StreamView). Streams z v.wire v.seat) h.framed w.streams) w.worn) ended is
+      by_kind o d (told cause k) tells on ended is = reported_end 2 s.grant end.NoMemory k.rows (over_more s.recovering.stream.hold (Some cause) k.holds tells) s.recovering.stream.hold (over_last v v.reports.items s.recovering.stream.hold (Some cause) k.holds) k.recalled (inl k.entries) (over_reported (on k.holds)) (λ _. over_released (on k.holds))
+          (told_wanting s.recovering.stream.hold cause (record {
             attached = attached_at v reported_now k.rows.heard.turns (AsksFor s.grant) refl k.attached;
-            own = last_at v reported_now s.stream.hold refl (over_last v v.reports.items s.stream.hold (Some cause) k.holds);
+            own = last_at v reported_now s.recovering.stream.hold refl (over_last v v.reports.items s.recovering.stream.hold (Some cause) k.holds);
             stopped = subst (λ (z : StreamView). Stopped z v.wire v.seat (Some cause)) h.framed k.stopped;
           })) ended is
 
@@ -583,15 +667,15 @@ module _ (v : LiveView) (r : Roomy HoldReport) where
   leaves_again Gone z l = l
   leaves_again Wanting z l = l
 
-  pub parted : (p : Parting) (n : ℕ) → DetachedRow v.seat n → EntriesAtEnd (end_of p) v.seat
-  parted Gone n d = inr (n, d)
-  parted Wanting n d = inr (n, d)
+  pub parted : (paged : Bool) (p : Parting) (n : ℕ) → DetachedRow paged v.seat n → EntriesAtEnd paged (end_of p) v.seat
+  parted paged Gone n d = inr (n, d)
+  parted paged Wanting n d = inr (n, d)
 
   pub leaves_by : (s : LeavingStage) (e : SessionEnd) → HasLeft v s e → ((share : Share) → IsCounted s.hold share → None ≡ share.told → r.items ≡ v.reports.items ++ report s.hold.number share ∷ [])
       → (HoldsRow v.seat v.reports.items (over s.hold None) → HoldsRow v.seat r.items none) → (ended : Ended) → ended ≡ record { end = e; why = why.Nothing } → HeldLeads v reported_now 1 (End ended)
-  leaves_by s e (went d) says row ended is = reported_end 1 s.grant (end_of s.parting) d.rows (over_more s.hold None d.holds says) (parted s.parting s.hold.number d.detached) (over_reported (row d.holds)) (λ _. over_released (row d.holds))
+  leaves_by s e (went d) says row ended is = reported_end 1 s.grant (end_of s.parting) d.rows (over_more s.hold None d.holds says) s.hold (over_last v v.reports.items s.hold None d.holds) d.recalled (parted true s.parting s.hold.number d.detached) (over_reported (row d.holds)) (λ _. over_released (row d.holds))
       (let_go s.hold s.parting (attached_at v reported_now d.rows.heard.turns (AsksFor s.grant) refl d.attached) (last_at v reported_now s.hold refl (over_last v v.reports.items s.hold None d.holds)) d.detached (left_again s.parting s.grant s.hold d.left)) ended is
-  leaves_by s e (stays k) says row ended is = reported_end 1 s.grant end.Worn k.keeps.rows (kept_more s.hold k.keeps.holds says) k.keeps.entries (kept_reported s.hold k.keeps.holds says) (λ no. absurd (no refl))
+  leaves_by s e (stays k) says row ended is = reported_end 1 s.grant end.Worn k.keeps.rows (kept_more s.hold k.keeps.holds says) s.hold (kept_last v v.reports.items s.hold k.keeps.holds) k.recalled k.keeps.entries (kept_reported s.hold k.keeps.holds says) (λ no. absurd (no refl))
       (leaving_worn s.hold s.parting (attached_at v reported_now k.keeps.rows.heard.turns (AsksFor s.grant) refl k.keeps.attached) (last_at v reported_now s.hold refl (kept_last v v.reports.items s.hold k.keeps.holds)) (leaves_again s.parting (stream_of s.grant s.hold) k.leaves) k.worn) ended is
 
 -- the hold is let go
@@ -617,26 +701,49 @@ module _ (v : LiveView) (s : LeavingStage) (h : LeavingTold v s) (t : SeatView) 
   abbrev gone_rows : Granting gone_now s.grant
   gone_rows = granting_seat v t v.reports s.grant h.keeps.rows moved row (none_more v.reports.items)
 
+  -- what was asked stays so, where the hub tells of the hold what it told before
+  pub gone_recalled : ((pages : List Event) → PagesRow v.seat pages → PagesRow t pages) → recovers_at t s.hold.number ≡ recovers_at v.seat s.hold.number → Recalled gone_now s.grant gone_rows s.hold.number
+  gone_recalled pages same =
+      let c = h.recalled.row in
+      record {
+        spec = h.recalled.spec;
+        spec_is = h.recalled.spec_is;
+        qs = h.recalled.qs;
+        row = record {
+          asked = c.asked;
+          cut = c.cut;
+          cut_is = c.cut_is;
+          talks = c.talks;
+          told = c.told;
+          untold = c.untold;
+          events = c.events;
+          pages = pages c.told c.pages;
+          open_id = c.open_id;
+          more = c.more;
+          ids = same ∙ c.ids;
+        };
+      }
+
   module _ (attaches : (specs : List HoldSpec) (refused : Option HoldSpec) → AttachRow v.seat specs refused → AttachRow t specs refused) where
     gone_attached : HasAttached gone_now h.keeps.rows.heard.turns (AsksFor s.grant)
     gone_attached = record { spec = h.keeps.attached.spec; spec_is = h.keeps.attached.spec_is; attaches = attaches (specs_before h.keeps.rows.heard.turns ++ h.keeps.attached.spec ∷ []) None h.keeps.attached.attaches }
 
-    pub detached : LeavesEntries t s.hold.number let_go_is.Gone → HoldsRow t v.reports.items (over s.hold None) → ((share : Share) → IsKept v.seat s.hold share → LeavesHold t s.hold share let_go_is.Gone) → (e : SessionEnd) → e ≡ end_of s.parting → HasLeft gone_now s e
-    detached entries holds leaves e is = subst (HasLeft gone_now s) (sym is)
-        (went (record { rows = gone_rows; attached = gone_attached; detached = entries; holds = holds; room = h.keeps.room; left = left_in s.parting v t s.grant s.hold h.leaves leaves }))
+    pub detached : Recalled gone_now s.grant gone_rows s.hold.number → LeavesEntries true t s.hold.number let_go_is.Gone → HoldsRow t v.reports.items (over s.hold None) → ((share : Share) → IsKept v.seat s.hold share → LeavesHold t s.hold share let_go_is.Gone) → (e : SessionEnd) → e ≡ end_of s.parting → HasLeft gone_now s e
+    detached asked entries holds leaves e is = subst (HasLeft gone_now s) (sym is)
+        (went (record { rows = gone_rows; attached = gone_attached; detached = entries; holds = holds; room = h.keeps.room; left = left_in s.parting v t s.grant s.hold h.leaves leaves; recalled = asked }))
 
-    keeps_here : EntriesRow t → HoldsRow t v.reports.items (kept s.hold) → Keeps gone_now s.grant s.hold
+    abbrev keeps_here : PagedRow t → HoldsRow t v.reports.items (kept s.hold) → Keeps gone_now s.grant s.hold
     keeps_here entries holds = record { rows = gone_rows; attached = gone_attached; entries = entries; holds = holds; room = h.keeps.room }
 
     still_leaves : ((share : Share) → IsKept v.seat s.hold share → IsKept t s.hold share) → LeavesAs s.parting gone_now (stream_of s.grant s.hold)
     still_leaves on = by_parting s.parting h.leaves
       where
         by_parting : (p : Parting) → LeavesAs p v (stream_of s.grant s.hold) → LeavesAs p gone_now (stream_of s.grant s.hold)
-        by_parting Gone l = (record { share = l.0.share; is = on l.0.share l.0.is; unlinked = l.0.unlinked; bytes = l.0.bytes }, l.1)
+        by_parting Gone l = (record { share = l.0.share; is = on l.0.share l.0.is; bytes = l.0.bytes }, l.1)
         by_parting Wanting l = record { share = l.share; is = on l.share l.is; part = l.part; is_part = l.is_part; bytes = l.bytes }
 
-    pub detach_worn : EntriesRow t → HoldsRow t v.reports.items (kept s.hold) → ((share : Share) → IsKept v.seat s.hold share → IsKept t s.hold share) → IsWorn t → HasLeft gone_now s end.Worn
-    detach_worn entries holds on is = stays (record { keeps = keeps_here entries holds; leaves = still_leaves on; worn = is })
+    pub detach_worn : Recalled gone_now s.grant gone_rows s.hold.number → PagedRow t → HoldsRow t v.reports.items (kept s.hold) → ((share : Share) → IsKept v.seat s.hold share → IsKept t s.hold share) → IsWorn t → HasLeft gone_now s end.Worn
+    detach_worn asked entries holds on is = stays (record { keeps = keeps_here entries holds; leaves = still_leaves on; worn = is; recalled = asked })
 
-    pub detach_busy : EntriesRow t → HoldsRow t v.reports.items (kept s.hold) → ((share : Share) → IsKept v.seat s.hold share → IsKept t s.hold share) → IsServed t → Busied v.seat t → HeldLeads v gone_now 1 (Wait (Leaving s))
-    detach_busy entries holds on served busy = record { moved = gone_went; to = (record { keeps = keeps_here entries holds; served = served; leaves = still_leaves on }, busy) }
+    pub detach_busy : Recalled gone_now s.grant gone_rows s.hold.number → PagedRow t → HoldsRow t v.reports.items (kept s.hold) → ((share : Share) → IsKept v.seat s.hold share → IsKept t s.hold share) → IsServed t → Busied v.seat t → HeldLeads v gone_now 1 (Wait (Leaving s))
+    detach_busy asked entries holds on served busy = record { moved = gone_went; to = (record { keeps = keeps_here entries holds; served = served; leaves = still_leaves on; recalled = asked }, busy) }

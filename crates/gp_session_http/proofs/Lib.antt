@@ -4,6 +4,7 @@ pub mod Hearing
 pub mod Talking
 pub mod Sending
 pub mod Granting
+pub mod Recalling
 pub mod Collecting
 pub mod Keeping
 pub mod Headlining

@@ -100,7 +100,6 @@ module _ (v : LiveView) (w : WatchView) (is : w ≡ record v.watch { moment = No
     content = h.content;
     turns = h.turns;
     request = h.request;
-    talks = h.talks;
     aim = h.aim;
     behind = h.behind;
     held = h.held;
@@ -117,7 +116,7 @@ module _ (v : LiveView) (w : WatchView) (is : w ≡ record v.watch { moment = No
   granting_begun g h = record { heard = heard_begun g.asked.value g.exchange.value g.answer.value h.heard; is = h.is }
 
   abbrev polling_begun : (p : Poll) → Polling v p → Polling (with_watch v w) p
-  polling_begun p h = record { heard = heard_begun p.asked.value p.exchange.value p.answer.value h.heard; wish = h.wish }
+  polling_begun p h = record { heard = heard_begun p.asked.value p.exchange.value p.answer.value h.heard; talks = h.talks; wish = h.wish }
 
   attached_begun : (turns : List Turn) (Asks : HoldSpec → Type 0) → HasAttached v turns Asks → HasAttached (with_watch v w) turns Asks
   attached_begun turns Asks h = record { spec = h.spec; spec_is = h.spec_is; attaches = h.attaches }
@@ -132,10 +131,10 @@ module _ (v : LiveView) (w : WatchView) (is : w ≡ record v.watch { moment = No
   leaves_begun Gone s h = h
   leaves_begun Wanting s h = h
 
-  keeps_begun : (g : Grant) (hold : KeptView) → Keeps v g hold → Keeps (with_watch v w) g hold
+  abbrev keeps_begun : (g : Grant) (hold : KeptView) → Keeps v g hold → Keeps (with_watch v w) g hold
   keeps_begun g hold h = record { rows = granting_begun g h.rows; attached = attached_begun h.rows.heard.turns (AsksFor g) h.attached; entries = h.entries; holds = h.holds; room = h.room }
 
-  keeps_poll_begun : (p : Poll) (now : ℕ) (hold : KeptView) → KeepsPoll v p now hold → KeepsPoll (with_watch v w) p now hold
+  abbrev keeps_poll_begun : (p : Poll) (now : ℕ) (hold : KeptView) → KeepsPoll v p now hold → KeepsPoll (with_watch v w) p now hold
   keeps_poll_begun p now hold h = record { rows = polling_begun p h.rows; attached = attached_begun h.rows.heard.turns (PollsFor p now) h.attached; entries = h.entries; holds = h.holds; room = h.room }
 
   last_begun : (hold : KeptView) → IsLastHold v hold → IsLastHold (with_watch v w) hold
@@ -146,15 +145,27 @@ module _ (v : LiveView) (w : WatchView) (is : w ≡ record v.watch { moment = No
   parts_begun Wanting h = tt
 
   pub held_begun : (stage : Held) → HeldTold v stage → HeldTold (with_watch v w) stage
-  held_begun (Attaching s) t = record { rows = granting_begun s.grant t.rows; is = unattached_begun t.rows.heard.turns t.is; served = t.served; spec_is = t.spec_is; fit = t.fit; head = t.head }
-  held_begun (Declining s) t = record { rows = granting_begun s.grant t.rows; is = declined_begun t.rows.heard.turns (AsksFor s.grant) t.is; served = t.served; bytes = t.bytes }
-  held_begun (Streaming s) t = record { keeps = keeps_begun s.grant s.stream.hold t.keeps; served = t.served; framed = t.framed; streams = t.streams }
+  held_begun (Attaching s) t = record { rows = granting_begun s.grant t.rows; alone = t.alone; is = unattached_begun t.rows.heard.turns t.is; served = t.served; spec_is = t.spec_is; fit = t.fit; head = t.head; again = t.again }
+  held_begun (Declining s) t = record { rows = granting_begun s.grant t.rows; alone = t.alone; is = declined_begun t.rows.heard.turns (AsksFor s.grant) t.is; served = t.served; bytes = t.bytes }
+  held_begun (Streaming s) t = record {
+    keeps = keeps_begun s.grant s.recovering.stream.hold t.keeps;
+    served = t.served;
+    framed = t.framed;
+    streams = t.streams;
+    recalls = record { spec = t.recalls.spec; spec_is = t.recalls.spec_is; qs = t.recalls.qs; row = t.recalls.row };
+  }
   held_begun (Closing s) t = record {
     rows = granting_begun s.grant t.rows;
     served = t.served;
     is = record { attached = attached_begun t.rows.heard.turns (AsksFor s.grant) t.is.attached; own = last_begun s.hold.value t.is.own; entries = t.is.entries; holds = t.is.holds; finished = t.is.finished };
+    recalled = record { spec = t.recalled.spec; spec_is = t.recalled.spec_is; qs = t.recalled.qs; row = t.recalled.row };
   }
-  held_begun (Leaving s) t = record { keeps = keeps_begun s.grant s.hold t.keeps; served = t.served; leaves = leaves_begun s.parting (stream_of s.grant s.hold) t.leaves }
+  held_begun (Leaving s) t = record {
+    keeps = keeps_begun s.grant s.hold t.keeps;
+    served = t.served;
+    leaves = leaves_begun s.parting (stream_of s.grant s.hold) t.leaves;
+    recalled = record { spec = t.recalled.spec; spec_is = t.recalled.spec_is; qs = t.recalled.qs; row = t.recalled.row };
+  }
   held_begun (Beginning s) t = record { rows = polling_begun s.poll t.rows; is = unattached_begun t.rows.heard.turns t.is; served = t.served; opens = t.opens; again = t.again }
   held_begun (Denying s) t = record { rows = polling_begun s.poll t.rows; is = declined_begun t.rows.heard.turns (MayPoll s.poll) t.is; served = t.served; bytes = t.bytes }
   held_begun (Waiting s) t = record { keeps = keeps_poll_begun s.poll s.since.value s.wait.hold t.keeps; served = t.served; poll_is = t.poll_is; waits = t.waits; again_is = t.again_is }

@@ -1,5 +1,5 @@
 -- What is asked of an origin for a client, and why an origin's answer can't be passed on.
-use Rattle.std.specs.Prelude.{◌≡◌, ◌≢◌, ℕ, ◌+◌, ◌-◌, ◌^◌, ◌<◌, ◌⊎◌, min, Bool, true, false, List, [], ◌∷◌, ◌++◌, length, All, bytes_eq, codes, Option, Some, None, option_map, Result, Ok, Err, ⊤}
+use Rattle.std.specs.Prelude.{◌≡◌, ◌≢◌, ℕ, ◌-◌, ◌^◌, ◌<◌, ◌⊎◌, Bool, true, false, List, [], ◌∷◌, length, All, bytes_eq, codes, Option, Some, None, option_map, Result, Ok, Err, ⊤}
 use Rattle.gp_plain.specs.declared.http.Response.{Response}
 use Rattle.gp_plain.specs.declared.http.Signer.{Signer}
 use Rattle.gp_body.specs.declared.plan.BodyPlan.{BodyPlan}
@@ -7,7 +7,7 @@ use Rattle.gp_body.specs.declared.plan.BodyPlan.TheVariants.{None as NoBody, Len
 use Rattle.gp_body.specs.declared.plan.BodyFault.{BodyFault}
 use Rattle.gp_body.specs.Plans.{plan_of_request}
 use Rattle.gp_head.specs.Writable.{IsFieldValue}
-use Rattle.gp_sig.specs.Tokens.{token_of}
+use Rattle.gp_again.specs.Texts.{sig_at, last_text}
 use Rattle.gp_forward.specs.Alone.{IsForwarded}
 use Rattle.gp_forward.specs.Conditions.{CanAsk}
 use Rattle.gp_instruct.specs.declared.instruct.Instruct.{Instruct}
@@ -43,24 +43,10 @@ body_sent (Ok Chunked) body = Some body
 body_sent (Ok ToClose) body = Some body
 body_sent (Err fault) body = None
 
--- a token counts for an hour
-abbrev pub expiry : ℕ → ℕ
-expiry now = min (now + 3600) (2 ^ 64 - 1)
-
-abbrev pub issuer : List ℕ
-issuer = codes "pushpin"
-
--- the token of a request that is forwarded at a moment, where there is a key
-abbrev pub sig_at : Signer → ℕ → Option (List ℕ)
-sig_at signer now = option_map (λ (key : List ℕ). token_of key issuer (expiry now)) signer.key
-
--- how an origin is told of the last item that a client has
-abbrev pub last_text : LastItem → List ℕ
-last_text item = item.channel ++ codes "; last-id=" ++ item.id
-
+-- how an origin is told of the last item that a client has, where it is told of one
 abbrev pub lasts_of : Option LastItem → List (List ℕ)
 lasts_of None = []
-lasts_of (Some item) = last_text item ∷ []
+lasts_of (Some item) = last_text item.channel item.id ∷ []
 
 abbrev pub AreValues : List (List ℕ) → Type 0
 AreValues lasts = All IsFieldValue lasts

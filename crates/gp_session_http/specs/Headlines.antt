@@ -16,7 +16,8 @@ use Rattle.gp_session_wait.specs.Laws.{HasOneAnswer, part_text, poll_text}
 use Rattle.gp_session_http.specs.declared.grant.Grant.{Grant}
 use Rattle.gp_session_http.specs.declared.poll.Poll.{Poll}
 use Rattle.gp_session_http.specs.Grants.{stream_head}
-use Rattle.gp_session_http.specs.Holding.{Granting}
+use Rattle.gp_session_http.specs.Heard.{BeginsTalks}
+use Rattle.gp_session_http.specs.Holding.{Granting, aims_for}
 use Rattle.gp_session_http.specs.LongPolls.{Polling, MayPoll}
 use Rattle.gp_session_http.specs.Posings.{own_of}
 use Rattle.gp_session_http.specs.Views.{LiveView}
@@ -27,9 +28,12 @@ abbrev pub FollowsHold : LiveView → Grant → ℕ → Type 0
 FollowsHold l g number =
     (chain : Chain) (h : Held) → slice_get (held l.seat.pass.seen) number ≡ Some h → (c : Covers chain l.seat.pass.seen number h) → FollowsSent l.wire g.chunked (stream_head g) (told_at l.seat number) chain c.opening c.start
 
--- so it is of a stream, for the answer of its talk, which asked for the hold
-abbrev pub IsStreamed : LiveView → ℕ → Type 0
-IsStreamed l number = (g : Grant) × Granting l g × FollowsHold l g number
+-- so it is of a stream, for the answer of its talk, which asked for the hold; talks behind that may have asked for what it missed
+pub record IsStreamed (l : LiveView) (number : ℕ) : Type 0 where
+  pub grant : Grant
+  pub rows : Granting l grant
+  pub talks : BeginsTalks l.line (aims_for l grant rows)
+  pub follows : FollowsHold l grant number
 
 -- where a hold was answered, its log has one answer, as its last piece, and this was sent, or a beginning of it
 pub record HasAnswerOf (l : LiveView) (h : Held) : Type 0 where

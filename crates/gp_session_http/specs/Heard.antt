@@ -12,7 +12,7 @@ use Rattle.gp_hub.specs.declared.outcome.SessionEnd.{SessionEnd}
 use Rattle.gp_hub.specs.declared.outcome.SessionEnd.TheVariants.{ClientGone, NoMemory}
 use Rattle.gp_instruct_json.specs.declared.answer.Answer.{Answer}
 use Rattle.gp_exchange.specs.Views.{ExchangeView}
-use Rattle.gp_session.specs.Lines.{hung, LineRow}
+use Rattle.gp_session.specs.Lines.{Aim, Last, LineRow, LineView, aim_of, idle}
 use Rattle.gp_session.specs.Seats.{SeatRow}
 use Rattle.gp_session.specs.Watches.{WatchRow}
 use Rattle.gp_session.specs.Wires.{RequestRow, BytesRow, exactly}
@@ -26,14 +26,13 @@ use Rattle.gp_session_http.specs.Turns.{IsAnswerTo, Turn, Behind, aims_of, specs
 use Rattle.gp_session_http.specs.Trace.{BeginsWith}
 use Rattle.gp_session_http.specs.Views.{LiveView}
 
--- Rows: the request, the talks, the times and what no move changes. The request was whole, and was asked of the picked address, behind
--- the turns before; the talk is over, and this is its answer. What the client sends behind its request isn't used. The clock was asked,
--- and the moment of a poll is its last answer.
+-- Rows: the request, the times and what no move changes. The request was whole, and was asked of the picked address, behind the turns
+-- before; the talk is over, and this is its answer. What the client sends behind its request isn't used. The clock was asked, and the
+-- moment of a poll is its last answer.
 pub record Heard (l : LiveView) (asked : Asked) (x : ExchangeView) (answer : Answer) : Type 0 where
   pub content : List ℕ
   pub turns : List Turn
   pub request : RequestRow l.wire (BeginsWith (IsServed l.charter.rules asked.request asked.address))
-  pub talks : IsIdle l.line.start → LineRow l.line (aims_of turns) (hung (record { exchange = x; given = content }))
   pub aim : IsAskedFor l.charter.signer asked x.asked
   pub behind : Behind l.charter turns asked
   pub held : AreHeld l.seat turns
@@ -44,6 +43,20 @@ pub record Heard (l : LiveView) (asked : Asked) (x : ExchangeView) (answer : Ans
   pub seat : SeatRow l.seat
   pub links : LinkLater l.wire.start l.wire.link
   pub dials : DialLater l.line.start l.line.dial
+
+-- the talks of the turns before, and that of the answer
+abbrev pub aims_with : List Turn → ExchangeView → List ℕ → List Aim
+aims_with turns x content = aims_of turns ++ aim_of (record { exchange = x; given = content }) ∷ []
+
+-- Row: the talks. There were no others, and all are over
+abbrev pub IsAlone : (l : LiveView) (asked : Asked) (x : ExchangeView) (answer : Answer) → Heard l asked x answer → Type 0
+IsAlone l asked x answer h = IsIdle l.line.start → LineRow l.line (aims_with h.turns x h.content) idle
+
+-- or there were others behind them
+pub record BeginsTalks (l : LineView) (aims : List Aim) : Type 0 where
+  pub more : List Aim
+  pub last : Last
+  pub row : IsIdle l.start → LineRow l (aims ++ more) last
 
 -- Rows: the entries, the attaches and the holds. The session has made no entry for the answer
 pub record IsUnattached (l : LiveView) (turns : List Turn) : Type 0 where

@@ -1,24 +1,29 @@
 -- What a session says of its ends once its origin's answer asks for a hold, where a move leads, why it waits, and how it ends. All is said
 -- since the session began.
-use Rattle.std.specs.Prelude.{◌≡◌, ◌≢◌, ℕ, ◌+◌, ◌<◌, ◌⊎◌, true, List, [], length, All, Option, Some, None, ⊤}
+use Rattle.std.specs.Prelude.{◌≡◌, ◌≢◌, ℕ, ◌+◌, ◌<◌, ◌⊎◌, Bool, true, false, List, [], length, All, Option, Some, None, ⊤}
 use mathlib.Core.List.{IsPrefix}
 use Rattle.gp_plain.specs.Fit.{fits}
 use Rattle.gp_plain.specs.Others.{Share}
 use Rattle.gp_plain.specs.declared.event.Event.TheVariants.{Attach}
+use Rattle.gp_plain.specs.declared.event.HoldSpec.{HoldSpec}
 use Rattle.gp_plain.specs.declared.reply.EndCause.{EndCause}
 use Rattle.gp_outside.specs.Counts.{grown}
 use Rattle.gp_hub.specs.declared.outcome.SessionEnd.{SessionEnd}
 use Rattle.gp_hub.specs.declared.outcome.SessionEnd.TheVariants.{Sent as WasSent, Cut, ClientGone, Worn, NoMemory}
 use Rattle.gp_hub.specs.declared.outcome.Why.{Why}
 use Rattle.gp_hub.specs.declared.outcome.Why.TheVariants as why
+use Rattle.gp_again.specs.Views.{AgainView}
 use Rattle.gp_session.specs.Causes.{WriteWaited, HasFailed, HasEnded}
+use Rattle.gp_session.specs.Lines.{Aim, LineView, MovedLine}
 use Rattle.gp_session.specs.Seats.{SeatView, MovedSeat, SeatRow, IsServed, IsWorn, Busied}
 use Rattle.gp_session.specs.Wires.{WireView, MovedWire, BytesRow, Sent, exactly}
 use Rattle.gp_session_hold.specs.Leaves.{stream_end}
 use Rattle.gp_session_hold.specs.Polls.{StreamPends}
-use Rattle.gp_session_hold.specs.Rows.{KeptView, IsKept, IsOver, IsReleased, none, kept, over, holds_of, reports_of, HoldsRow, EntriesRow, DetachedRow, stream_text}
+use Rattle.gp_session_hold.specs.Rows.{KeptView, IsKept, IsOver, IsReleased, none, kept, over, holds_of, reports_of, HoldsRow, OwnRow, PagedRow, PagesRow, DetachedRow, stream_text}
 use Rattle.gp_session_hold.specs.Streams.{StreamView, Streams, Finished, Stopped}
-use Rattle.gp_session_hold.specs.Unlinked.{IsUnlinked}
+use Rattle.gp_session_recover.specs.Polls.{TalkWaitedAt}
+use Rattle.gp_session_recover.specs.Quests.{Quest}
+use Rattle.gp_session_recover.specs.Rows.{Closed, RecoveringView, Recovers, sides}
 use Rattle.gp_session_wait.specs.Waits.{most_repeats}
 use Rattle.gp_session_http.specs.declared.asking.Asking.{Asking as AskingStage}
 use Rattle.gp_session_http.specs.declared.attaching.Attaching.{Attaching as AttachingStage}
@@ -36,10 +41,10 @@ use Rattle.gp_session_http.specs.declared.held.HeldNext.TheVariants.{Go, Wait, A
 use Rattle.gp_session_http.specs.declared.poll.Poll.{Poll}
 use Rattle.gp_session_http.specs.declared.stage.Ended.{Ended}
 use Rattle.gp_session_http.specs.declared.stage.Stage.TheVariants.{Asking}
-use Rattle.gp_session_http.specs.Grants.{IsGrant, AsksFor, stream_head}
+use Rattle.gp_session_http.specs.Grants.{IsGrant, AsksFor, source_of, stream_head}
 use Rattle.gp_session_http.specs.Turns.{Turn}
 use Rattle.gp_session_http.specs.Trace.{Told}
-use Rattle.gp_session_http.specs.Heard.{Heard, IsUnattached, IsDeclined, HasAttached, IsLastHold, full_text, end_of}
+use Rattle.gp_session_http.specs.Heard.{Heard, IsAlone, IsUnattached, aims_with, IsDeclined, HasAttached, IsLastHold, full_text, end_of}
 use Rattle.gp_session_http.specs.LongPolls.{Polling, PollEnds, BeginningTold, DenyingTold, WaitingTold, AnsweringTold, DepartingTold}
 use Rattle.gp_session_http.specs.Views.{LiveView, Goes}
 
@@ -52,16 +57,40 @@ pub record Granting (l : LiveView) (g : Grant) : Type 0 where
 abbrev pub stream_of : Grant → KeptView → StreamView
 stream_of g hold = record { hold = hold; chunked = g.chunked; head = stream_head g }
 
+-- Row: the talks. There were those of the turns before and of the answer
+abbrev pub aims_for : (l : LiveView) (g : Grant) → Granting l g → List Aim
+aims_for l g rows = aims_with rows.heard.turns g.exchange.value rows.heard.content
+
+abbrev pub Alone : (l : LiveView) (g : Grant) → Granting l g → Type 0
+Alone l g rows = IsAlone l g.asked.value g.exchange.value g.answer.value rows.heard
+
+-- Rows: the talks and the pages. Behind those, the stream asks for what it missed
+pub record Recalls (l : LiveView) (g : Grant) (rows : Granting l g) (v : RecoveringView) : Type 0 where
+  pub spec : HoldSpec
+  pub spec_is : AsksFor g spec
+  pub qs : List Quest
+  pub row : Recovers l.charter.signer (source_of g spec) (aims_for l g rows) qs (sides v l.wire l.line l.seat)
+
+-- or it has asked, and all of its talks are over
+pub record Recalled (l : LiveView) (g : Grant) (rows : Granting l g) (hold : ℕ) : Type 0 where
+  pub spec : HoldSpec
+  pub spec_is : AsksFor g spec
+  pub qs : List Quest
+  pub row : Closed l.charter.signer (source_of g spec) (aims_for l g rows) qs hold l.line l.seat
+
 pub record AttachingTold (l : LiveView) (s : AttachingStage) : Type 0 where
   pub rows : Granting l s.grant
+  pub alone : Alone l s.grant rows
   pub is : IsUnattached l rows.heard.turns
   pub served : IsServed l.seat
   pub spec_is : AsksFor s.grant s.spec
   pub fit : fits (Attach s.spec) ≡ true
   pub head : s.head ≡ stream_head s.grant
+  pub again : s.again ≡ source_of s.grant s.spec
 
 pub record DecliningTold (l : LiveView) (s : DecliningStage) : Type 0 where
   pub rows : Granting l s.grant
+  pub alone : Alone l s.grant rows
   pub is : IsDeclined l rows.heard.turns (AsksFor s.grant)
   pub served : IsServed l.seat
   pub bytes : BytesRow l.wire (exactly full_text)
@@ -70,16 +99,17 @@ pub record DecliningTold (l : LiveView) (s : DecliningStage) : Type 0 where
 pub record Keeps (l : LiveView) (g : Grant) (hold : KeptView) : Type 0 where
   pub rows : Granting l g
   pub attached : HasAttached l rows.heard.turns (AsksFor g)
-  pub entries : EntriesRow l.seat
+  pub entries : PagedRow l.seat
   pub holds : HoldsRow l.seat l.reports.items (kept hold)
   pub room : 0 < l.reports.spare
 
 -- all that was taken of it is sent or waits
 pub record StreamingTold (l : LiveView) (s : StreamingStage) : Type 0 where
-  pub keeps : Keeps l s.grant s.stream.hold
+  pub keeps : Keeps l s.grant s.recovering.stream.hold
   pub served : IsServed l.seat
-  pub framed : s.stream ≡ stream_of s.grant s.stream.hold
-  pub streams : Streams s.stream l.wire l.seat
+  pub framed : s.recovering.stream ≡ stream_of s.grant s.recovering.stream.hold
+  pub streams : Streams s.recovering.stream l.wire l.seat
+  pub recalls : Recalls l s.grant keeps.rows s.recovering
 
 -- it is let go, since the client is gone, or memory is wanting: then a beginning of what was taken is sent or waits
 abbrev pub LeavesAs : Parting → LiveView → StreamView → Type 0
@@ -90,12 +120,13 @@ pub record LeavingTold (l : LiveView) (s : LeavingStage) : Type 0 where
   pub keeps : Keeps l s.grant s.hold
   pub served : IsServed l.seat
   pub leaves : LeavesAs s.parting l (stream_of s.grant s.hold)
+  pub recalled : Recalled l s.grant keeps.rows s.hold.number
 
 -- its end was told, and it is reported
 pub record IsClosed (l : LiveView) (turns : List Turn) (g : Grant) (hold : KeptView) (cause : EndCause) : Type 0 where
   pub attached : HasAttached l turns (AsksFor g)
   pub own : IsLastHold l hold
-  pub entries : EntriesRow l.seat
+  pub entries : PagedRow l.seat
   pub holds : HoldsRow l.seat l.reports.items none
   pub finished : Finished (stream_of g hold) l.wire l.seat cause
 
@@ -103,6 +134,7 @@ pub record ClosingTold (l : LiveView) (s : ClosingStage) : Type 0 where
   pub rows : Granting l s.grant
   pub served : IsServed l.seat
   pub is : IsClosed l rows.heard.turns s.grant s.hold.value s.cause
+  pub recalled : Recalled l s.grant rows s.hold.value.number
 
 abbrev pub HeldTold : LiveView → Held → Type 0
 HeldTold l (Attaching s) = AttachingTold l s
@@ -147,11 +179,18 @@ pub record StreamWaited (v w : LiveView) (number : ℕ) : Type 0 where
   pub received : w.wire.link.received ≡ grown wire.link.received heard
   pub pends : StreamPends number now wire w.wire seat w.seat heard
 
+-- and an open talk with the origin that is asked for a page waits, unless another call holds the hub's turn
+pub record RecoveringWaited (v w : LiveView) (s : StreamingStage) : Type 0 where
+  pub waited : StreamWaited v w s.recovering.stream.hold.number
+  pub line : LineView
+  pub moved_line : MovedLine v.line line
+  pub talk : Busied waited.seat w.seat ⊎ TalkWaitedAt s.recovering.talk line w.line
+
 -- why a session waits
 abbrev pub HeldPends : LiveView → LiveView → Held → Type 0
 HeldPends v w (Attaching s) = Busied v.seat w.seat
 HeldPends v w (Declining s) = Unsent v w
-HeldPends v w (Streaming s) = StreamWaited v w s.stream.hold.number
+HeldPends v w (Streaming s) = RecoveringWaited v w s
 HeldPends v w (Closing s) = Unsent v w
 HeldPends v w (Leaving s) = Busied v.seat w.seat
 HeldPends v w (Beginning s) = Busied v.seat w.seat
@@ -160,13 +199,13 @@ HeldPends v w (Waiting s) = StreamWaited v w s.wait.hold.number
 HeldPends v w (Answering s) = Unsent v w
 HeldPends v w (Departing s) = Busied v.seat w.seat
 
--- a Detach is made only at the end, where the client is gone or memory is wanting
-abbrev pub EntriesAtEnd : SessionEnd → SeatView → Type 0
-EntriesAtEnd (WasSent code) s = EntriesRow s
-EntriesAtEnd (Cut cause) s = EntriesRow s
-EntriesAtEnd ClientGone s = EntriesRow s ⊎ ((hold : ℕ) × DetachedRow s hold)
-EntriesAtEnd Worn s = EntriesRow s
-EntriesAtEnd NoMemory s = EntriesRow s ⊎ ((hold : ℕ) × DetachedRow s hold)
+-- a Detach is made only at the end, where the client is gone or memory is wanting; a stream may bring pages
+abbrev pub EntriesAtEnd : Bool → SessionEnd → SeatView → Type 0
+EntriesAtEnd paged (WasSent code) s = OwnRow paged s
+EntriesAtEnd paged (Cut cause) s = OwnRow paged s
+EntriesAtEnd paged ClientGone s = OwnRow paged s ⊎ ((hold : ℕ) × DetachedRow paged s hold)
+EntriesAtEnd paged Worn s = OwnRow paged s
+EntriesAtEnd paged NoMemory s = OwnRow paged s ⊎ ((hold : ℕ) × DetachedRow paged s hold)
 
 -- a hold was let go of which no end was told, with all that was taken of it sent or waiting, or a beginning where memory was wanting
 pub record LeftWhole (l : LiveView) (g : Grant) (hold : KeptView) : Type 0 where
@@ -206,23 +245,30 @@ pub data HeldEnds (l : LiveView) (turns : List Turn) (g : Grant) : SessionEnd �
   told_wanting : (hold : KeptView) (cause : EndCause) → IsUnput l turns g hold cause → HeldEnds l turns g NoMemory why.Nothing
   kept_worn : (hold : KeptView) → HasAttached l turns (AsksFor g) → IsLastHold l hold → Streams (stream_of g hold) l.wire l.seat → IsWorn l.seat → HeldEnds l turns g Worn why.Nothing
   leaving_worn : (hold : KeptView) (parting : Parting) → HasAttached l turns (AsksFor g) → IsLastHold l hold → LeavesAs parting l (stream_of g hold) → IsWorn l.seat → HeldEnds l turns g Worn why.Nothing
-  let_go : (hold : KeptView) (parting : Parting) → HasAttached l turns (AsksFor g) → IsLastHold l hold → DetachedRow l.seat hold.number → LeftAs parting l g hold → HeldEnds l turns g (end_of parting) why.Nothing
+  let_go : (hold : KeptView) (parting : Parting) → HasAttached l turns (AsksFor g) → IsLastHold l hold → DetachedRow true l.seat hold.number → LeftAs parting l g hold → HeldEnds l turns g (end_of parting) why.Nothing
+
+-- what was asked of origins: nothing behind the answer, or what the last hold missed
+pub data HasRecalled (l : LiveView) (g : Grant) (rows : Granting l g) : Type 0 where
+  alone : Alone l g rows → HasRecalled l g rows
+  recalled : (hold : KeptView) → IsLastHold l hold → Recalled l g rows hold.number → HasRecalled l g rows
 
 -- the answer asked for a stream, or for a long poll
 pub record StreamFinishes (l : LiveView) (ended : Ended) : Type 0 where
   pub grant : Grant
   pub rows : Granting l grant
+  pub entries : EntriesAtEnd true ended.end l.seat
+  pub talks : HasRecalled l grant rows
   pub says : HeldEnds l rows.heard.turns grant ended.end ended.why
 
 pub record PollFinishes (l : LiveView) (ended : Ended) : Type 0 where
   pub poll : Poll
   pub rows : Polling l poll
+  pub entries : EntriesAtEnd false ended.end l.seat
   pub says : PollEnds l rows.heard.turns poll ended.end ended.why
 
 -- the rows at the end: each hold of the session's was reported, and none is kept unless the hub serves no more
 pub record HeldFinishes (l : LiveView) (ended : Ended) : Type 0 where
   pub seat : SeatRow l.seat
-  pub entries : EntriesAtEnd ended.end l.seat
   pub reported : l.reports.items ≡ reports_of (holds_of l.seat)
   pub released : ended.end ≢ Worn → All IsReleased (holds_of l.seat)
   pub by : StreamFinishes l ended ⊎ PollFinishes l ended
@@ -257,20 +303,25 @@ pub record HeldLeads (v w : LiveView) (n : ℕ) (next : HeldNext) : Type 0 where
   pub moved : Goes v w
   pub to : HeldLeadsTo v w n next
 
--- the hold was attached, and nothing was said yet
-pub record IsAttachedAt (l : LiveView) (g : Grant) (head : List ℕ) (hold : KeptView) : Type 0 where
+-- the hold was attached, and nothing was said or asked yet
+pub record IsAttachedAt (l : LiveView) (g : Grant) (head : List ℕ) (again : Option AgainView) (hold : KeptView) : Type 0 where
   pub keeps : Keeps l g hold
+  pub alone : Alone l g keeps.rows
   pub served : IsServed l.seat
   pub head_is : head ≡ stream_head g
   pub share : Share
   pub is : IsKept l.seat hold share
   pub untaken : share.taken ≡ []
-  pub unlinked : IsUnlinked share.spec
+  pub unmissed : share.recovers ≡ []
+  pub spec_is : AsksFor g share.spec
+  pub again_is : again ≡ source_of g share.spec
+  pub pages : PagesRow l.seat []
   pub bytes : BytesRow l.wire (exactly [])
 
 -- no hold was made, and nothing was said yet
 pub record IsDeclinedAt (l : LiveView) (g : Grant) : Type 0 where
   pub rows : Granting l g
+  pub alone : Alone l g rows
   pub is : IsDeclined l rows.heard.turns (AsksFor g)
   pub served : IsServed l.seat
   pub bytes : BytesRow l.wire (exactly [])
@@ -279,48 +330,53 @@ pub record IsDeclinedAt (l : LiveView) (g : Grant) : Type 0 where
 pub record HasClosed (l : LiveView) (s : StreamingStage) (cause : EndCause) : Type 0 where
   pub rows : Granting l s.grant
   pub attached : HasAttached l rows.heard.turns (AsksFor s.grant)
-  pub entries : EntriesRow l.seat
-  pub holds : HoldsRow l.seat l.reports.items (over s.stream.hold (Some cause))
+  pub entries : PagedRow l.seat
+  pub holds : HoldsRow l.seat l.reports.items (over s.recovering.stream.hold (Some cause))
   pub room : 0 < l.reports.spare
   pub served : IsServed l.seat
-  pub framed : s.stream ≡ stream_of s.grant s.stream.hold
-  pub finished : Finished s.stream l.wire l.seat cause
+  pub framed : s.recovering.stream ≡ stream_of s.grant s.recovering.stream.hold
+  pub finished : Finished s.recovering.stream l.wire l.seat cause
+  pub recalled : Recalled l s.grant rows s.recovering.stream.hold.number
 
 -- the hub serves no more, and the hold stays; or an end of it was told, and memory was wanting for what was given
 pub record StopsWorn (l : LiveView) (s : StreamingStage) : Type 0 where
-  pub keeps : Keeps l s.grant s.stream.hold
-  pub streams : Streams s.stream l.wire l.seat
+  pub keeps : Keeps l s.grant s.recovering.stream.hold
+  pub streams : Streams s.recovering.stream l.wire l.seat
   pub worn : IsWorn l.seat
+  pub recalled : Recalled l s.grant keeps.rows s.recovering.stream.hold.number
 
 pub record StopsTold (l : LiveView) (s : StreamingStage) (cause : EndCause) : Type 0 where
   pub rows : Granting l s.grant
   pub attached : HasAttached l rows.heard.turns (AsksFor s.grant)
-  pub entries : EntriesRow l.seat
-  pub holds : HoldsRow l.seat l.reports.items (over s.stream.hold (Some cause))
+  pub entries : PagedRow l.seat
+  pub holds : HoldsRow l.seat l.reports.items (over s.recovering.stream.hold (Some cause))
   pub room : 0 < l.reports.spare
-  pub stopped : Stopped s.stream l.wire l.seat (Some cause)
+  pub stopped : Stopped s.recovering.stream l.wire l.seat (Some cause)
+  pub recalled : Recalled l s.grant rows s.recovering.stream.hold.number
 
 pub data StopsBy (l : LiveView) (s : StreamingStage) : Option EndCause → SessionEnd → Type 0 where
   worn : StopsWorn l s → StopsBy l s None Worn
   told : (cause : EndCause) → StopsTold l s cause → StopsBy l s (Some cause) NoMemory
 
 pub record HasStoppedAt (l : LiveView) (s : StreamingStage) (end_told : Option EndCause) (end : SessionEnd) : Type 0 where
-  pub framed : s.stream ≡ stream_of s.grant s.stream.hold
+  pub framed : s.recovering.stream ≡ stream_of s.grant s.recovering.stream.hold
   pub stops : StopsBy l s end_told end
 
 -- the hold was let go, or the hub serves no more
 pub record HasDetached (l : LiveView) (s : LeavingStage) : Type 0 where
   pub rows : Granting l s.grant
   pub attached : HasAttached l rows.heard.turns (AsksFor s.grant)
-  pub detached : DetachedRow l.seat s.hold.number
+  pub detached : DetachedRow true l.seat s.hold.number
   pub holds : HoldsRow l.seat l.reports.items (over s.hold None)
   pub room : 0 < l.reports.spare
   pub left : LeftAs s.parting l s.grant s.hold
+  pub recalled : Recalled l s.grant rows s.hold.number
 
 pub record StaysWorn (l : LiveView) (s : LeavingStage) : Type 0 where
   pub keeps : Keeps l s.grant s.hold
   pub leaves : LeavesAs s.parting l (stream_of s.grant s.hold)
   pub worn : IsWorn l.seat
+  pub recalled : Recalled l s.grant keeps.rows s.hold.number
 
 pub data HasLeft (l : LiveView) (s : LeavingStage) : SessionEnd → Type 0 where
   went : HasDetached l s → HasLeft l s (end_of s.parting)

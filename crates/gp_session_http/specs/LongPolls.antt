@@ -1,5 +1,5 @@
 -- What a session says of a long poll that its origin's answer asks for, and how it ends with it.
-use Rattle.std.specs.Prelude.{◌≡◌, ℕ, ◌<◌, ◌⊎◌, List, [], Option, Some, None, ⊤}
+use Rattle.std.specs.Prelude.{◌≡◌, ℕ, ◌<◌, ◌⊎◌, List, [], Option, Some, None, ⊤, false}
 use Rattle.gp_plain.specs.Others.{Share}
 use Rattle.gp_plain.specs.declared.event.HoldSpec.{HoldSpec}
 use Rattle.gp_plain.specs.declared.reply.EndCause.{EndCause}
@@ -31,7 +31,7 @@ use Rattle.gp_session_http.specs.declared.leaving.Parting.{Parting}
 use Rattle.gp_session_http.specs.declared.leaving.Parting.TheVariants.{Gone, Wanting}
 use Rattle.gp_session_http.specs.declared.poll.Poll.{Poll}
 use Rattle.gp_session_http.specs.declared.waiting.Waiting.{Waiting as WaitingStage}
-use Rattle.gp_session_http.specs.Heard.{Heard, IsUnattached, IsDeclined, HasAttached, IsLastHold, full_text, end_of}
+use Rattle.gp_session_http.specs.Heard.{Heard, IsAlone, IsUnattached, IsDeclined, HasAttached, IsLastHold, full_text, end_of}
 use Rattle.gp_session_http.specs.Posings.{own_of, IsOpeningOf, kept_for}
 use Rattle.gp_session_http.specs.Turns.{Turn, IsPollSpec}
 use Rattle.gp_session_http.specs.Views.{LiveView}
@@ -40,6 +40,7 @@ use Rattle.gp_session_http.specs.Wishes.{IsWish}
 -- Rows that all stages have: the answer asks for a long poll
 pub record Polling (l : LiveView) (p : Poll) : Type 0 where
   pub heard : Heard l p.asked.value p.exchange.value p.answer.value
+  pub talks : IsAlone l p.asked.value p.exchange.value p.answer.value heard
   pub wish : IsWish p.answer.value wish.Poll
 
 -- such a hold is asked for, which waits from a moment on
@@ -143,7 +144,7 @@ pub data PollEnds (l : LiveView) (turns : List Turn) (p : Poll) : SessionEnd →
   overflowed : (hold : KeptView) → PollIs l turns p hold (λ (v : WaitView). IsOverflowed v l.wire l.seat hold) → l.wire.rest ≡ [] → PollEnds l turns p (Cut Overflow) why.Nothing
   unrepeated : (r : Repeat) → PollIs l turns p r.hold (λ (v : WaitView). IsRetried v l.wire l.seat r) → PollEnds l turns p NoMemory why.Nothing
   waiting_worn : (now : ℕ) (hold : KeptView) → HasAttached l turns (PollsFor p now) → IsLastHold l hold → StillPolls l p hold → IsWorn l.seat → PollEnds l turns p Worn why.Nothing
-  departed : (now : ℕ) (hold : KeptView) (parting : Parting) (share : Share) → HasAttached l turns (PollsFor p now) → IsLastHold l hold → DetachedRow l.seat hold.number → IsOver l.seat hold None share → MayPoll p share.spec → Sent l.wire [] → PartsBy parting l
+  departed : (now : ℕ) (hold : KeptView) (parting : Parting) (share : Share) → HasAttached l turns (PollsFor p now) → IsLastHold l hold → DetachedRow false l.seat hold.number → IsOver l.seat hold None share → MayPoll p share.spec → Sent l.wire [] → PartsBy parting l
       → PollEnds l turns p (end_of parting) why.Nothing
 
 -- the moment at which a hold is attached is that of the poll
@@ -217,7 +218,7 @@ pub record HasGone (l : LiveView) (s : DepartingStage) : Type 0 where
   pub rows : Polling l s.poll
   pub moment : ℕ
   pub attached : HasAttached l rows.heard.turns (PollsFor s.poll moment)
-  pub detached : DetachedRow l.seat s.hold.number
+  pub detached : DetachedRow false l.seat s.hold.number
   pub holds : HoldsRow l.seat l.reports.items (over s.hold None)
   pub room : 0 < l.reports.spare
   pub share : Share

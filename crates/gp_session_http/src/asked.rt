@@ -1,18 +1,16 @@
 //! What is asked of an origin.
-ghost use Rattle.std.specs.Prelude.{◌≡◌, IfOk, IfSome, option_map};
+ghost use Rattle.std.specs.Prelude.{◌≡◌, IfOk, option_map};
 ghost use Rattle.gp_body.specs.Plans.{plan_of_request};
-ghost use Rattle.gp_head.specs.Writable.{IsFieldValue};
 ghost use Rattle.gp_forward.specs.Alone.{IsForwarded};
-ghost use Rattle.gp_sig.specs.Tokens.{token_of};
-ghost use Rattle.gp_session_http.specs.Asking.{AreValues, BeginsFor, IsAskable, asked_after, body_sent, expiry, issuer, last_text, lasts_of, sig_at};
+ghost use Rattle.gp_again.specs.Texts.{sig_at};
+ghost use Rattle.gp_session_http.specs.Asking.{AreValues, BeginsFor, IsAskable, asked_after, body_sent, lasts_of};
 
+use gp_again::{last_text, sig_at};
 use gp_body::BodyPlan;
-use gp_exchange::{Exchange, forward, forward_law};
-use gp_instruct::write_last;
+use gp_exchange::{Exchange, forward};
 use gp_intake::Whole;
 use gp_plain::{Address, Body, Request, Signer};
 use gp_session_wait::Last;
-use gp_sig::token;
 use std::alloc::{AllocError, Global};
 
 /// What is asked of an origin for a client: the request, where it goes, and the moment of its token, in seconds.
@@ -40,33 +38,6 @@ fn body_sent<'b>(head: &Request, body: &'b Body) -> Option<&'b [u8]>
     }
 }
 
-/// How long a token counts.
-fn expiry(now: u64) -> u64
-    ensures { result ≡ expiry now }
-{
-    now.saturating_add(3600)
-}
-
-/// The token of a moment under a key.
-fn token_at(alloc: Global, key: &Body, now: u64) -> Result<Body, AllocError>
-    ensures is { IfOk result (λ text. text ≡ token_of key.now issuer (expiry now)) }
-    ensures value { IfOk result IsFieldValue }
-{
-    forward_law();
-    token(alloc, key.bytes(), b"pushpin", expiry(now))
-}
-
-/// The token of a moment, where there is a key.
-fn sig_at(alloc: Global, signer: &Signer, now: u64) -> Result<Option<Body>, AllocError>
-    ensures is { IfOk result (λ sig. sig ≡ sig_at signer.now now) }
-    ensures value { IfOk result (λ sig. IfSome sig IsFieldValue) }
-{
-    match &signer.key {
-        None => Ok(None),
-        Some(key) => Ok(Some(token_at(alloc, key, now)?)),
-    }
-}
-
 /// The bytes of a body that may be there.
 fn bytes_of(body: &Option<Body>) -> Option<&[u8]>
     ensures { option_map (λ b. b.now) result ≡ body.now }
@@ -77,25 +48,14 @@ fn bytes_of(body: &Option<Body>) -> Option<&[u8]>
     }
 }
 
-/// How the origin is told of the last item that the client has.
-fn last_text(alloc: Global, last: &Last) -> Result<Body, AllocError>
-    ensures is { IfOk result (λ text. text ≡ last_text last.now) }
-    ensures value { IfOk result IsFieldValue }
-{
-    forward_law();
-    let _channel = last.channel.bytes();
-    let _id = last.id.bytes();
-    write_last(alloc, &last.channel, &last.id)
-}
-
-/// The same where there may be none.
+/// How the origin is told of the last item that the client has, where it is told of one.
 fn lasts_of(alloc: Global, last: &Option<Last>) -> Result<Vec<Body>, AllocError>
     ensures is { IfOk result (λ lasts. lasts.items ≡ lasts_of last.now) }
     ensures values { IfOk result (λ lasts. AreValues lasts.items) }
 {
     match last {
         None => Ok(Vec::new(alloc)),
-        Some(last) => Ok(vec![in alloc; last_text(alloc, last)?]?),
+        Some(last) => Ok(vec![in alloc; last_text(alloc, &last.channel, &last.id)?]?),
     }
 }
 

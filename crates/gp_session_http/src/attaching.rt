@@ -9,18 +9,21 @@ use crate::leaving::{Leaving, Parting};
 use crate::live::Live;
 use crate::stage::{Ended, end_with};
 use crate::streaming::Streaming;
+use gp_again::Again;
 use gp_answer::Refusal;
 use gp_hub::{SessionEnd, Why};
 use gp_outside::{Clock, Dial, Link};
 use gp_plain::{Body, HoldSpec};
 use gp_session_hold::{KeptHold, Opened, Stream, attach};
+use gp_session_recover::Recovering;
 
-/// Expects the hub's turn, to attach this hold. The stream begins with this head.
+/// Expects the hub's turn, to attach this hold. The stream begins with this head, and asks so for what it missed.
 #[derive(Drop)]
 pub(crate) struct Attaching {
     pub(crate) grant: Grant,
     pub(crate) head: Body,
     pub(crate) spec: HoldSpec,
+    pub(crate) again: Option<Again>,
 }
 
 impl Attaching {
@@ -32,13 +35,33 @@ impl Attaching {
         requires told { HeldTold live.old (held.Attaching self) }
         ensures leads { HeldLeads live.old live.new 3 result }
     {
-        let Attaching { grant, head, spec } = self;
+        let Attaching {
+            grant,
+            head,
+            spec,
+            again,
+        } = self;
         match attach(live.alloc, &mut live.seat, &mut live.reports, spec) {
-            Opened::Kept(hold) => begin(live, grant, head, hold),
-            Opened::Full => decline(live, grant),
-            Opened::Busy(spec) => HeldNext::Wait(Held::Attaching(Attaching { grant, head, spec })),
-            Opened::Worn => HeldNext::End(end_with(SessionEnd::Worn)),
-            Opened::NoMemory => HeldNext::End(end_with(SessionEnd::NoMemory)),
+            Opened::Kept(hold) => begin(live, grant, head, again, hold),
+            Opened::Full => {
+                drop(head);
+                drop(again);
+                decline(live, grant)
+            }
+            Opened::Busy(spec) => HeldNext::Wait(Held::Attaching(Attaching {
+                grant,
+                head,
+                spec,
+                again,
+            })),
+            Opened::Worn => {
+                drop(again);
+                HeldNext::End(end_with(SessionEnd::Worn))
+            }
+            Opened::NoMemory => {
+                drop(again);
+                HeldNext::End(end_with(SessionEnd::NoMemory))
+            }
         }
     }
 }
@@ -48,18 +71,25 @@ fn begin<'h, L: Link, D: Dial, C: Clock>(
     live: &mut Live<'h, L, D, C>,
     grant: Grant,
     head: Body,
+    again: Option<Again>,
     hold: KeptHold,
 ) -> HeldNext
-    requires told { IsAttachedAt live.old grant head hold }
+    requires told { IsAttachedAt live.old grant head again hold }
     ensures leads { HeldLeads live.old live.new 3 result }
 {
     match Stream::new(live.alloc, &mut live.wire, hold, grant.chunked, head) {
-        Ok(stream) => HeldNext::Go(Held::Streaming(Streaming { grant, stream })),
-        Err(hold) => HeldNext::Go(Held::Leaving(Leaving {
+        Ok(stream) => HeldNext::Go(Held::Streaming(Streaming {
             grant,
-            hold,
-            parting: Parting::Wanting,
+            recovering: Recovering::new(live.alloc, stream, again),
         })),
+        Err(hold) => {
+            drop(again);
+            HeldNext::Go(Held::Leaving(Leaving {
+                grant,
+                hold,
+                parting: Parting::Wanting,
+            }))
+        }
     }
 }
 

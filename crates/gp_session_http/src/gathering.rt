@@ -13,7 +13,8 @@ use crate::held::Held;
 use crate::live::Live;
 use crate::poll::pose;
 use crate::stage::{Next, Stage, end_with};
-use gp_exchange::{Exchange, Progress};
+use gp_again::link_law;
+use gp_exchange::{Exchange, Progress, forward_law};
 use gp_hub::{SessionEnd, Why};
 use gp_instruct_json::{Answer, AnswerFault, read_answer};
 use gp_outside::{Clock, Dial, Link};
@@ -205,15 +206,14 @@ impl Asking {
         requires wish { IsWish answer wish.Stream }
         ensures leads { Leads live.old live.new 2 result }
     {
-        match prepare(live.alloc, &self.asked, &self.exchange, answer) {
-            Ok(attaching) => {
-                drop(self);
-                Next::Hold(Held::Attaching(attaching))
-            }
-            Err(_) => {
-                drop(self);
-                Next::End(end_with(SessionEnd::NoMemory))
-            }
+        forward_law();
+        link_law();
+        let Asking { asked, exchange } = self;
+        let prepared = prepare(live.alloc, asked, &exchange, answer);
+        drop(exchange);
+        match prepared {
+            Ok(attaching) => Next::Hold(Held::Attaching(attaching)),
+            Err(_) => Next::End(end_with(SessionEnd::NoMemory)),
         }
     }
 

@@ -1,18 +1,21 @@
 //! What an origin's answer asks to hold, and how the client's stream begins.
-ghost use Rattle.std.specs.Prelude.{◌≡◌, IfOk};
-ghost use Rattle.gp_session_http.specs.Grants.{IsHoldOf, IsPrepared, stream_head_by};
+ghost use Rattle.std.specs.Prelude.{◌≡◌, IfOk, IfSome};
+ghost use Rattle.gp_again.specs.Links.{HasTarget};
+ghost use Rattle.gp_instruct.specs.Targets.{IsTarget};
+ghost use Rattle.gp_session_http.specs.Asking.{IsAskable};
+ghost use Rattle.gp_session_http.specs.Grants.{IsAttachingOf, IsGrantOf, IsWanted, IsHoldOf, IsPrepared, stream_head_by};
 ghost use Rattle.gp_session_http.specs.Wishes.{IsWish, most_gathered, status_of};
 ghost use Rattle.gp_session_http.specs.declared.grant.Wish.TheVariants as wish;
 
 use crate::asked::Asked;
 use crate::attaching::Attaching;
 use crate::passed::{code_by, in_chunks, reason_by};
+use crate::source::{again_of, link_of};
 use gp_answer::{answer_head, streamed};
 use gp_exchange::Exchange;
 use gp_instruct::{Instruct, Mode};
 use gp_instruct_json::{Answer, is_instruct};
 use gp_plain::{Body, HoldSpec, Response};
-use gp_session_hold::without_link;
 use std::alloc::{AllocError, Global};
 use std::snapshot::Snapshot;
 
@@ -111,7 +114,15 @@ fn stream_head(alloc: Global, answer: &Answer, version: u8) -> Result<Body, Allo
     )
 }
 
-/// The hold that an answer asks for. Until missing items can be asked for it has no link.
+/// What an answer asks for: the head with which the stream begins, the hold, and the link by which missing items are asked for.
+#[derive(Drop)]
+struct Wanted {
+    head: Body,
+    spec: HoldSpec,
+    link: Option<Body>,
+}
+
+/// The hold that an answer asks for.
 fn hold_of(alloc: Global, answer: Answer, now: u64) -> Result<HoldSpec, AllocError>
     requires { IsWish answer wish.Stream }
     ensures { IfOk result (IsHoldOf answer now) }
@@ -121,30 +132,82 @@ fn hold_of(alloc: Global, answer: Answer, now: u64) -> Result<HoldSpec, AllocErr
         None => unreachable!(),
         Some(instruct) => match instruct.into_spec(alloc, body, now, false)? {
             None => unreachable!(),
-            Some(spec) => Ok(without_link(spec)),
+            Some(spec) => Ok(spec),
         },
     }
 }
 
-/// What is attached for an answer that asks for a stream, and the head with which the stream begins.
+/// What is remembered of an answer that asks for a stream.
+fn grant_of(asked: &Asked, exchange: &Exchange, answer: &Answer) -> Grant
+    ensures { IsGrantOf asked.now exchange.now answer.now result }
+{
+    Grant {
+        asked: Snapshot::of(asked),
+        exchange: Snapshot::of(exchange),
+        answer: Snapshot::of(answer),
+        code: code_by(&answer.head, status_of(&answer.instruct)),
+        chunked: in_chunks(streamed(asked.request.head.version)),
+    }
+}
+
+/// What an answer asks for at a moment, of a client of this version.
+fn wanted_of(alloc: Global, version: u8, now: u64, answer: Answer) -> Result<Wanted, AllocError>
+    requires { IsWish answer wish.Stream }
+    ensures { IfOk result (IsWanted answer version now) }
+{
+    let head = stream_head(alloc, &answer, version)?;
+    let link = link_of(alloc, &answer.instruct)?;
+    let spec = hold_of(alloc, answer, now)?;
+    Ok(Wanted { head, spec, link })
+}
+
+/// What is attached, where an answer asks for this.
+fn attaching(
+    alloc: Global,
+    grant: Grant,
+    asked: Asked,
+    wanted: Wanted,
+) -> Result<Attaching, AllocError>
+    requires askable { IsAskable asked }
+    requires target { IfSome wanted.link IsTarget }
+    ensures { IfOk result (IsAttachingOf grant asked wanted) }
+{
+    let Wanted { head, spec, link } = wanted;
+    match again_of(alloc, asked, &spec, link) {
+        Ok(again) => Ok(Attaching {
+            grant,
+            head,
+            spec,
+            again,
+        }),
+        Err(wanting) => {
+            drop(grant);
+            drop(head);
+            drop(spec);
+            Err(wanting)
+        }
+    }
+}
+
+/// What is attached for an answer that asks for a stream, the head with which the stream begins, and how it asks for what it missed.
 pub(crate) fn prepare(
     alloc: Global,
-    asked: &Asked,
+    asked: Asked,
     exchange: &Exchange,
     answer: Answer,
 ) -> Result<Attaching, AllocError>
-    requires { IsWish answer wish.Stream }
-    ensures { IfOk result (IsPrepared asked.now exchange.now answer) }
+    requires wish { IsWish answer wish.Stream }
+    requires askable { IsAskable asked }
+    requires target { IfSome answer.instruct HasTarget }
+    ensures { IfOk result (IsPrepared asked exchange.now answer) }
 {
-    let version = asked.request.head.version;
-    let head = stream_head(alloc, &answer, version)?;
-    let grant = Grant {
-        asked: Snapshot::of(asked),
-        exchange: Snapshot::of(exchange),
-        answer: Snapshot::of(&answer),
-        code: code_by(&answer.head, status_of(&answer.instruct)),
-        chunked: in_chunks(streamed(version)),
-    };
-    let spec = hold_of(alloc, answer, asked.moment)?;
-    Ok(Attaching { grant, head, spec })
+    let grant = grant_of(&asked, exchange, &answer);
+    match wanted_of(alloc, asked.request.head.version, asked.moment, answer) {
+        Ok(wanted) => attaching(alloc, grant, asked, wanted),
+        Err(wanting) => {
+            drop(grant);
+            drop(asked);
+            Err(wanting)
+        }
+    }
 }

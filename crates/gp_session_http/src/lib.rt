@@ -1,5 +1,6 @@
 //! A session with a client of HTTP: one request is read, asked of the origin that its route names, and the response is passed on; or
-//! the response asks for a hold, and the session streams what it gives, or waits for one answer.
+//! the response asks for a hold, and the session streams what it gives, or waits for one answer. A stream that missed items asks the origin
+//! for them.
 //!
 //! An [`HttpSession`] goes through stages. Each stage is a struct in a file of its own, named for what it expects, and owns
 //! only what it still needs; each move of a stage is one method.
@@ -23,8 +24,8 @@
 //! `specs/Trace.antt` has the rows that hold after every move without a hold: what the bytes received are, what was said in the talks with
 //! the origin, and what was sent. `specs/Heard.antt`, `specs/Holding.antt` and `specs/LongPolls.antt` have those since a hold was asked
 //! for, and `specs/Headlines.antt` what a client is sent of its holds. `specs/Polls.antt` says what a poll answers, and why. It stands
-//! on `gp_session`, `gp_session_hold`, `gp_session_wait`, `gp_intake`, `gp_routes`, `gp_exchange`, `gp_answer` and `gp_hub`, and has no
-//! handle.
+//! on `gp_session`, `gp_session_hold`, `gp_session_recover`, `gp_session_wait`, `gp_intake`, `gp_routes`, `gp_exchange`, `gp_answer` and
+//! `gp_hub`, and has no handle.
 #![tactic(auto)]
 
 mod answering;
@@ -53,6 +54,7 @@ mod reading_body;
 mod reading_head;
 mod refusing;
 mod session;
+mod source;
 mod stage;
 mod streaming;
 mod verdict;

@@ -1,4 +1,4 @@
-//! A session that keeps a hold, and streams what it gives.
+//! A session that keeps a hold, streams what it gives, and asks the origin for what was missed.
 ghost use Rattle.std.specs.Prelude.{◌≡◌};
 ghost use Rattle.gp_session_http.specs.Holding.{HasClosed, HasStoppedAt, HeldLeads, HeldTold};
 ghost use Rattle.gp_session_http.specs.declared.held.Held.TheVariants as held;
@@ -13,14 +13,14 @@ use crate::stage::end_with;
 use gp_hub::SessionEnd;
 use gp_outside::{Clock, Dial, Link};
 use gp_plain::EndCause;
-use gp_session_hold::{Stream, StreamPolled};
+use gp_session_recover::{Recovering, StreamPolled};
 use std::snapshot::Snapshot;
 
-/// Expects what the hold gives.
+/// Expects what the hold gives, and pages of what it missed.
 #[derive(Drop)]
 pub(crate) struct Streaming {
     pub(crate) grant: Grant,
-    pub(crate) stream: Stream,
+    pub(crate) recovering: Recovering,
 }
 
 impl Streaming {
@@ -33,7 +33,13 @@ impl Streaming {
         ensures leads { HeldLeads live.old live.new 2 result }
     {
         let now = live.watch.moment();
-        match self.stream.poll(&mut live.wire, &mut live.seat, now) {
+        match self.recovering.poll(
+            &mut live.wire,
+            &mut live.line,
+            &mut live.seat,
+            live.signer,
+            now,
+        ) {
             StreamPolled::Pending => HeldNext::Wait(Held::Streaming(self)),
             StreamPolled::Ended(cause) => self.close(live, cause),
             StreamPolled::Gone => self.leave(Parting::Gone),
@@ -46,12 +52,12 @@ impl Streaming {
 
     /// Goes on to let the hold go.
     fn leave(self, parting: Parting) -> HeldNext
-        ensures { result ≡ next.Go (held.Leaving (record { grant = self.grant; hold = self.stream.hold; parting = parting })) }
+        ensures { result ≡ next.Go (held.Leaving (record { grant = self.grant; hold = self.recovering.stream.hold; parting = parting })) }
     {
-        let Streaming { grant, stream } = self;
+        let Streaming { grant, recovering } = self;
         HeldNext::Go(Held::Leaving(Leaving {
             grant,
-            hold: stream.into_hold(),
+            hold: recovering.into_hold(),
             parting,
         }))
     }
@@ -65,8 +71,8 @@ impl Streaming {
         requires told { HasClosed live.old self cause }
         ensures leads { HeldLeads live.old live.new 2 result }
     {
-        let Streaming { grant, stream } = self;
-        let hold = stream.into_hold();
+        let Streaming { grant, recovering } = self;
+        let hold = recovering.into_hold();
         let said = Snapshot::of(&hold);
         hold.report(Some(cause), &mut live.reports);
         HeldNext::Go(Held::Closing(Closing {
@@ -86,8 +92,8 @@ impl Streaming {
         requires told { HasStoppedAt live.old self told end }
         ensures leads { HeldLeads live.old live.new 2 result }
     {
-        let Streaming { stream, .. } = self;
-        stream.into_hold().report(told, &mut live.reports);
+        let Streaming { recovering, .. } = self;
+        recovering.into_hold().report(told, &mut live.reports);
         HeldNext::End(end_with(end))
     }
 }

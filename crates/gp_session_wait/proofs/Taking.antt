@@ -94,7 +94,7 @@ module _ (v u : PollView) (s t : SeatView) (now count : ℕ) (d : Seeking v u s 
       spec = d.goes.spec;
       seat = moved_seat_again s t a d.goes.seat moved;
       row = λ r. row (d.goes.row r);
-      entries = λ r. entries_same t a moved.same.number seen (d.goes.entries r);
+      entries = λ r. entries_same t a moved.same.number seen false (d.goes.entries r);
       attaches = λ specs refused r. attaches_same t a moved.same.number seen specs refused (d.goes.attaches specs refused r);
     }
 
@@ -128,7 +128,7 @@ module _ (v u : PollView) (s t : SeatView) (now count : ℕ) (d : Seeking v u s 
       spec = spec ∙ d.goes.spec;
       seat = moved_seat_again s t a d.goes.seat moved;
       row = λ r. row (d.goes.row r);
-      entries = λ r. entries_taken t a moved.same.number u.hold k.hold now taken took d.polls.share d.polls.is (d.goes.entries r);
+      entries = λ r. entries_taken t a moved.same.number u.hold k.hold now taken took d.polls.share d.polls.is false (d.goes.entries r);
       attaches = λ specs refused r. attaches_taken t a moved.same.number u.hold k.hold now taken took specs refused (d.goes.attaches specs refused r);
     }
 

@@ -1,4 +1,4 @@
-use Rattle.std.proofs.Common.{sym, subst, arith, refl}
+use Rattle.std.proofs.Common.{sym, subst, arith, refl, false}
 use Rattle.gp_session_http.specs.Turns.{specs_before}
 use Rattle.gp_session_http.specs.Holding.{AttachingTold}
 use Rattle.gp_session_http.specs.Views.{LiveView}
@@ -13,7 +13,7 @@ begin-requires g c =
     let s = c.args.self in
     let told : AttachingTold v s = subst (λ (x : LiveView). AttachingTold x s) (sym c.live.view_is) c.requires.told in
     let e = c.in-Kept.ensures in
-    record { told = attached v s told c.attach.new.seat c.attach.new.reports e.moved e.row e.items e.entries c.in-Kept.hold e.opens (e.holds told.is.holds) (e.attaches (specs_before told.rows.heard.turns) told.is.attaches) }
+    record { told = attached v s told c.attach.new.seat c.attach.new.reports e.moved e.row e.items (e.entries false) c.in-Kept.hold e.opens (e.holds told.is.holds) (e.attaches (specs_before told.rows.heard.turns) told.is.attaches) }
 
 pub returns-in-Kept : goal.returns-in-Kept
 returns-in-Kept g c =
@@ -27,7 +27,7 @@ decline-requires g c =
     let s = c.args.self in
     let told : AttachingTold v s = subst (λ (x : LiveView). AttachingTold x s) (sym c.live.view_is) c.requires.told in
     let e = c.in-Full.ensures in
-    record { told = declined v s told c.attach.new.seat c.attach.new.reports e.moved e.row e.items e.entries e.opens (e.holds told.is.holds) (e.attaches (specs_before told.rows.heard.turns) told.is.attaches) }
+    record { told = declined v s told c.attach.new.seat c.attach.new.reports e.moved e.row e.items (e.entries false) e.opens (e.holds told.is.holds) (e.attaches (specs_before told.rows.heard.turns) told.is.attaches) }
 
 pub returns-in-Full : goal.returns-in-Full
 returns-in-Full g c =
@@ -41,7 +41,7 @@ returns-in-Busy g c =
     let s = c.args.self in
     let told : AttachingTold v s = subst (λ (x : LiveView). AttachingTold x s) (sym c.live.view_is) c.requires.told in
     let e = c.in-Busy.ensures in
-    record { leads = held_live v c.args.live.now _ 3 _ c.live.view_is (still_busy v s told c.attach.new.seat c.attach.new.reports e.moved e.row e.items e.entries (e.holds told.is.holds) (e.attaches (specs_before told.rows.heard.turns) told.is.attaches) c.in-Busy.spec e.opens) }
+    record { leads = held_live v c.args.live.now _ 3 _ c.live.view_is (still_busy v s told c.attach.new.seat c.attach.new.reports e.moved e.row e.items (e.entries false) (e.holds told.is.holds) (e.attaches (specs_before told.rows.heard.turns) told.is.attaches) c.in-Busy.spec e.opens) }
 
 pub returns-in-Worn : goal.returns-in-Worn
 returns-in-Worn g c =
@@ -49,7 +49,7 @@ returns-in-Worn g c =
     let s = c.args.self in
     let told : AttachingTold v s = subst (λ (x : LiveView). AttachingTold x s) (sym c.live.view_is) c.requires.told in
     let e = c.in-Worn.ensures in
-    record { leads = held_live v c.args.live.now _ 3 _ c.live.view_is (attach_worn v s told c.attach.new.seat c.attach.new.reports e.moved e.row e.items e.entries (e.holds told.is.holds) (e.attaches (specs_before told.rows.heard.turns) told.is.attaches) e.opens c.end_with.result c.end_with.ensures) }
+    record { leads = held_live v c.args.live.now _ 3 _ c.live.view_is (attach_worn v s told c.attach.new.seat c.attach.new.reports e.moved e.row e.items (e.entries false) (e.holds told.is.holds) (e.attaches (specs_before told.rows.heard.turns) told.is.attaches) e.opens c.end_with.result c.end_with.ensures) }
 
 pub returns-in-NoMemory : goal.returns-in-NoMemory
 returns-in-NoMemory g c =
@@ -57,4 +57,4 @@ returns-in-NoMemory g c =
     let s = c.args.self in
     let told : AttachingTold v s = subst (λ (x : LiveView). AttachingTold x s) (sym c.live.view_is) c.requires.told in
     let e = c.in-NoMemory.ensures in
-    record { leads = held_live v c.args.live.now _ 3 _ c.live.view_is (attach_wants v s told c.attach.new.seat c.attach.new.reports e.moved e.row e.items e.entries (e.holds told.is.holds) (e.attaches (specs_before told.rows.heard.turns) told.is.attaches) e.opens c.end_with-in-NoMemory.result c.end_with-in-NoMemory.ensures) }
+    record { leads = held_live v c.args.live.now _ 3 _ c.live.view_is (attach_wants v s told c.attach.new.seat c.attach.new.reports e.moved e.row e.items (e.entries false) (e.holds told.is.holds) (e.attaches (specs_before told.rows.heard.turns) told.is.attaches) e.opens c.end_with-in-NoMemory.result c.end_with-in-NoMemory.ensures) }

@@ -1,4 +1,4 @@
-use Rattle.std.proofs.Common.{sym, subst, arith, refl}
+use Rattle.std.proofs.Common.{sym, subst, arith, refl, false}
 use Rattle.gp_session_http.specs.LongPolls.{DepartingTold}
 use Rattle.gp_session_http.specs.Views.{LiveView}
 use Rattle.gp_session_http.proofs.Granting.{held_live, held_from, with_held}
@@ -18,7 +18,7 @@ report-requires g c =
     let s = c.args.self in
     let h : DepartingTold v s = subst (λ (x : LiveView). DepartingTold x s) (sym c.live.view_is) c.requires.told in
     let e = c.in-Gone.ensures in
-    record { told = depart_gone v s h c.let_go.new.seat e.moved e.row e.attaches (e.entries h.keeps.entries) (e.holds v.reports.items h.keeps.holds) e.leaves c.end-end.result c.end-end.ensures }
+    record { told = depart_gone v s h c.let_go.new.seat e.moved e.row e.attaches (e.entries false h.keeps.entries) (e.holds v.reports.items h.keeps.holds) e.leaves c.end-end.result c.end-end.ensures }
 
 pub returns-in-Gone : goal.returns-in-Gone
 returns-in-Gone g c =
@@ -34,7 +34,7 @@ returns-in-Busy g c =
     let s = c.args.self in
     let h : DepartingTold v s = subst (λ (x : LiveView). DepartingTold x s) (sym c.live.view_is) c.requires.told in
     let e = c.in-Busy.ensures in
-    record { leads = held_live v c.args.live.now _ 1 _ c.live.view_is (depart_busy v s h c.let_go.new.seat e.moved e.row e.attaches (e.entries h.keeps.entries) (e.holds v.reports.items h.keeps.holds) e.leaves e.gone.free e.gone.busy) }
+    record { leads = held_live v c.args.live.now _ 1 _ c.live.view_is (depart_busy v s h c.let_go.new.seat e.moved e.row e.attaches (e.entries false h.keeps.entries) (e.holds v.reports.items h.keeps.holds) e.leaves e.gone.free e.gone.busy) }
 
 pub report-requires-in-Worn : goal.report-requires-in-Worn
 report-requires-in-Worn g c =
@@ -42,7 +42,7 @@ report-requires-in-Worn g c =
     let s = c.args.self in
     let h : DepartingTold v s = subst (λ (x : LiveView). DepartingTold x s) (sym c.live.view_is) c.requires.told in
     let e = c.in-Worn.ensures in
-    record { told = depart_worn v s h c.let_go.new.seat e.moved e.row e.attaches (e.entries h.keeps.entries) (e.holds v.reports.items h.keeps.holds) e.leaves e.gone.worn }
+    record { told = depart_worn v s h c.let_go.new.seat e.moved e.row e.attaches (e.entries false h.keeps.entries) (e.holds v.reports.items h.keeps.holds) e.leaves e.gone.worn }
 
 pub returns-in-Worn : goal.returns-in-Worn
 returns-in-Worn g c =

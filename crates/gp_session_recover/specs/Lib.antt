@@ -1,0 +1,4 @@
+pub mod Quests
+pub mod Talks
+pub mod Rows
+pub mod Polls
