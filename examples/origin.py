@@ -5,7 +5,8 @@
 
 GET / is a page. POST /echo answers the body that it was sent. GET /count comes in chunks. GET /signed says whether the request
 carries a token that was signed with KEY. GET /events/CHANNEL asks by GRIP for a stream of the channel, behind the item `a`.
-GET /poll/CHANNEL asks for a long poll of the channel, of two seconds.
+GET /feed/CHANNEL asks for one too, and has a link to /feed/CHANNEL/since, which answers with what follows the last item that the
+client has. GET /poll/CHANNEL asks for a long poll of the channel, of two seconds.
 """
 
 import base64
@@ -31,6 +32,18 @@ def is_signed(key, token):
         return hmac.compare_digest(wanted, decoded(mac)) and says["iss"] == "pushpin" and says["exp"] > time.time()
     except (ValueError, KeyError):
         return False
+
+
+# the items that the origin remembers of each feed: an id, and the content
+REMEMBERED = [("a", b""), ("b", b"one\n"), ("c", b"two\n")]
+
+
+def since(last):
+    """The contents of what is remembered behind the item that `grip-last` tells, and the id of the last of them."""
+    known = [name for name, _ in REMEMBERED]
+    told = last.partition("last-id=")[2]
+    behind = REMEMBERED[known.index(told) + 1 :] if told in known else []
+    return b"".join(content for _, content in behind), behind[-1][0] if behind else told
 
 
 class Handler(BaseHTTPRequestHandler):
@@ -60,6 +73,14 @@ class Handler(BaseHTTPRequestHandler):
         elif self.path.startswith("/events/"):
             channel = self.path.removeprefix("/events/")
             self.answer(200, b"welcome\n", grip_hold="stream", grip_channel=f"{channel}; prev-id=a")
+        elif self.path.startswith("/feed/") and self.path.endswith("/since"):
+            channel = self.path.removeprefix("/feed/").removesuffix("/since")
+            page, last = since(self.headers.get("grip-last", ""))
+            self.answer(200, page, grip_hold="stream", grip_channel=f"{channel}; prev-id={last}")
+        elif self.path.startswith("/feed/"):
+            channel = self.path.removeprefix("/feed/")
+            link = f"</feed/{channel}/since>; rel=next"
+            self.answer(200, b"welcome\n", grip_hold="stream", grip_channel=f"{channel}; prev-id=a", grip_link=link)
         elif self.path.startswith("/poll/"):
             channel = self.path.removeprefix("/poll/")
             self.answer(200, b"nothing new\n", grip_hold="response", grip_channel=channel, grip_timeout="2")

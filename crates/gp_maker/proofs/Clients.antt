@@ -9,7 +9,7 @@ use Rattle.gp_hub.specs.Own.{mine}
 use Rattle.gp_hub.specs.declared.outcome.SessionEnd.{SessionEnd}
 use Rattle.gp_hub.specs.declared.outcome.SessionEnd.TheVariants.{Sent, Cut, ClientGone, Worn, NoMemory}
 use Rattle.gp_session.specs.Seats.{SeatView}
-use Rattle.gp_session_hold.specs.Rows.{DetachedRow, EntriesRow, IsOwn, IsOwnEvent, holds_of, numbers_of}
+use Rattle.gp_session_hold.specs.Rows.{DetachedRow, IsOwn, IsOwnEvent, OwnRow, holds_of, numbers_of}
 use Rattle.gp_session_http.specs.Holding.{EntriesAtEnd}
 use Rattle.gp_session_http.specs.Views.{LiveView}
 use Rattle.gp_session_http.proofs.Ending.{leaves_entries, leaves_reports, leaves_released, leaves_seat}
@@ -33,23 +33,23 @@ use Rattle.gp_maker.proofs.Publishers.{in_ranges}
 
 -- a client's session publishes nothing
 
-quiet_event : (holds : List ℕ) (event : Event) → IsOwnEvent holds event → is_publish event ≡ false
-quiet_event holds (Attach spec) own = refl
-quiet_event holds (Publish item) own = absurd own
-quiet_event holds (Take hold now) own = refl
-quiet_event holds (Page hold from to bytes then) own = refl
-quiet_event holds (PageFailed hold) own = refl
-quiet_event holds (Push hold message) own = refl
-quiet_event holds (Join hold channel) own = refl
-quiet_event holds (Leave hold channel) own = refl
-quiet_event holds (Detach hold) own = refl
+quiet_event : (paged : Bool) (holds : List ℕ) (event : Event) → IsOwnEvent paged holds event → is_publish event ≡ false
+quiet_event paged holds (Attach spec) own = refl
+quiet_event paged holds (Publish item) own = absurd own
+quiet_event paged holds (Take hold now) own = refl
+quiet_event paged holds (Page hold from to bytes then) own = refl
+quiet_event paged holds (PageFailed hold) own = refl
+quiet_event paged holds (Push hold message) own = refl
+quiet_event paged holds (Join hold channel) own = refl
+quiet_event paged holds (Leave hold channel) own = refl
+quiet_event paged holds (Detach hold) own = refl
 
-quiet_all : (holds : List ℕ) (es : List Entry) → All (IsOwn holds) es → count_by publishes es ≡ 0
-quiet_all holds [] all = refl
-quiet_all holds (e ∷ es) all =
+quiet_all : (paged : Bool) (holds : List ℕ) (es : List Entry) → All (IsOwn paged holds) es → count_by publishes es ≡ 0
+quiet_all paged holds [] all = refl
+quiet_all paged holds (e ∷ es) all =
     let sum = sum_by-cons (λ (x : Entry). cond (publishes x) 1 0) e es in
-    let one : cond {A = ℕ} (publishes e) 1 0 ≡ 0 = ap (λ (b : Bool). cond b 1 0) (quiet_event holds e.event (All-head (IsOwn holds) e es all)) in
-    let rest : count_by publishes es ≡ 0 = quiet_all holds es (All-tail (IsOwn holds) e es all) in
+    let one : cond {A = ℕ} (publishes e) 1 0 ≡ 0 = ap (λ (b : Bool). cond b 1 0) (quiet_event paged holds e.event (All-head (IsOwn paged holds) e es all)) in
+    let rest : count_by publishes es ≡ 0 = quiet_all paged holds es (All-tail (IsOwn paged holds) e es all) in
     omega (arith, sum, one, rest)
 
 quiet_push : (es : List Entry) (e : Entry) → count_by publishes es ≡ 0 → publishes e ≡ false → count_by publishes (es ++ e ∷ []) ≡ 0
@@ -61,22 +61,22 @@ quiet_push (d ∷ ds) e none quiet =
     let rest : count_by publishes (ds ++ e ∷ []) ≡ 0 = quiet_push ds e tail quiet in
     omega (arith, sum, more, none, rest)
 
-quiet_rows : (s : SeatView) → EntriesRow s → count_by publishes (mine s.pass) ≡ 0
-quiet_rows s row = quiet_all (numbers_of (holds_of s)) (mine s.pass) row
+quiet_rows : (paged : Bool) (s : SeatView) → OwnRow paged s → count_by publishes (mine s.pass) ≡ 0
+quiet_rows paged s row = quiet_all paged (numbers_of (holds_of s)) (mine s.pass) row
 
-quiet_end : (s : SeatView) → EntriesRow s ⊎ ((hold : ℕ) × DetachedRow s hold) → count_by publishes (mine s.pass) ≡ 0
-quiet_end s (inl row) = quiet_rows s row
-quiet_end s (inr (hold, d)) = ap (count_by publishes) d.all ∙ quiet_push d.before (entry_of s.pass.number (Detach hold)) (quiet_all (numbers_of (holds_of s)) d.before d.own) refl
+quiet_end : (paged : Bool) (s : SeatView) → OwnRow paged s ⊎ ((hold : ℕ) × DetachedRow paged s hold) → count_by publishes (mine s.pass) ≡ 0
+quiet_end paged s (inl row) = quiet_rows paged s row
+quiet_end paged s (inr (hold, d)) = ap (count_by publishes) d.all ∙ quiet_push d.before (entry_of s.pass.number (Detach hold)) (quiet_all paged (numbers_of (holds_of s)) d.before d.own) refl
 
-quiet_by : (e : SessionEnd) (s : SeatView) → EntriesAtEnd e s → count_by publishes (mine s.pass) ≡ 0
-quiet_by (Sent code) s row = quiet_rows s row
-quiet_by (Cut cause) s row = quiet_rows s row
-quiet_by ClientGone s row = quiet_end s row
-quiet_by Worn s row = quiet_rows s row
-quiet_by NoMemory s row = quiet_end s row
+quiet_by : (paged : Bool) (e : SessionEnd) (s : SeatView) → EntriesAtEnd paged e s → count_by publishes (mine s.pass) ≡ 0
+quiet_by paged (Sent code) s row = quiet_rows paged s row
+quiet_by paged (Cut cause) s row = quiet_rows paged s row
+quiet_by paged ClientGone s row = quiet_end paged s row
+quiet_by paged Worn s row = quiet_rows paged s row
+quiet_by paged NoMemory s row = quiet_end paged s row
 
 none_published : (l : LiveView) (ended : _) → PhaseFinishes l ended → count_by publishes (mine l.seat.pass) ≡ 0
-none_published l ended f = quiet_by ended.end l.seat (leaves_entries l ended f)
+none_published l ended f = let row = leaves_entries l ended f in quiet_by row.0 ended.end l.seat row.1
 
 module _ {L D C : Type 0} (links : L → LinkTells) (dials : D → DialTells) (clocks : C → ClockTells) (server : ServerView) where
   given_from : (turn : TableId) (claim : ℕ) (start : DevicesView) (pass : HubView) (over : Finished L D C) (l : LeavesClient links dials clocks start pass (charter_of server claim) over)

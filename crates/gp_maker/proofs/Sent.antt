@@ -60,6 +60,29 @@ use Rattle.gp_plain.proofs.http.Response.TheSendSync as response
 use Rattle.gp_plain.proofs.roomed.Roomed.TheSendSync as roomed
 use Rattle.gp_plain.proofs.reply.HoldReport.TheSendSync as report
 use Rattle.gp_instruct_json.specs.contracts.answer.Answer as Answer
+use Rattle.gp_plain.proofs.name.ItemId.TheSendSync as item_id
+use Rattle.gp_plain.specs.contracts.http.Address as Address
+use Rattle.gp_plain.specs.contracts.name.ItemId as ItemId
+use Rattle.gp_plain.specs.contracts.name.Name as Name
+use Rattle.gp_recover.proofs.page.PageFault.TheSendSync as page_fault
+use Rattle.gp_recover.proofs.reader.PageReader.TheSendSync as page_reader
+use Rattle.gp_recover.proofs.unbegun.Unbegun.TheSendSync as unbegun
+use Rattle.gp_recover.specs.contracts.heading.Heading as PageHeading
+use Rattle.gp_recover.specs.contracts.page.Page as Page
+use Rattle.gp_recover.specs.contracts.reading.Reading as PageReading
+use Rattle.gp_recover.specs.contracts.recovered.Last as PageLast
+use Rattle.gp_recover.specs.contracts.recovery.Recovery as Recovery
+use Rattle.gp_recover.specs.contracts.recovery.Recovery.TheInside as RecoveryInside
+use Rattle.gp_recover.specs.contracts.stage.Over as PageOver
+use Rattle.gp_recover.specs.contracts.stage.Sought as Sought
+use Rattle.gp_recover.specs.contracts.stage.Sought.TheInside as SoughtInside
+use Rattle.gp_recover.specs.contracts.stage.Stage as PageStage
+use Rattle.gp_again.proofs.again.Again.TheSendSync as again
+use Rattle.gp_session.proofs.paging.StreamPage.TheSendSync as stream_page
+use Rattle.gp_session_recover.specs.contracts.open.Open as OpenTalk
+use Rattle.gp_session_recover.specs.contracts.recovering.Recovering as Recovering
+use Rattle.gp_session_recover.specs.contracts.recovering.Recovering.TheInside as RecoveringInside
+use Rattle.gp_session_recover.specs.contracts.talk.Talk as Talk
 use Rattle.gp_session_hold.proofs.hold.KeptHold.TheSendSync as kept_hold
 use Rattle.gp_session_hold.specs.contracts.hold.KeptHold as KeptHold
 use Rattle.gp_session_hold.specs.contracts.stream.Stream as Stream
@@ -189,7 +212,7 @@ pub grant_send : IsSend Grant.the_row
 grant_send = declared_send Grant.the_type (kept Asked.the_row, (kept Exchange.the_row, (kept Answer.the_row, (search sendable depth 20, (search sendable depth 20, tt)))))
 
 pub attaching_send : IsSend Attaching.the_row
-attaching_send = declared_send Attaching.the_type (grant_send, (body_bytes.the_send, (spec.the_send, tt)))
+attaching_send = declared_send Attaching.the_type (grant_send, (body_bytes.the_send, (spec.the_send, (search (again.the_send, as_row_send, sendable) depth 20, tt))))
 
 pub declining_send : IsSend Declining.the_row
 declining_send = declared_send Declining.the_type (grant_send, tt)
@@ -197,8 +220,38 @@ declining_send = declared_send Declining.the_type (grant_send, tt)
 pub stream_send : IsSend Stream.the_row
 stream_send = view_send _ _ _ _ _ (declared_send StreamInside.the_type (search crosses depth 20, (kept_hold.the_send, (search sendable depth 20, (kept Body.the_row, tt)))))
 
+pub sought_send : IsSend Sought.the_row
+sought_send = view_send _ _ _ _ _ (declared_send SoughtInside.the_type (kept Address.the_row, (kept Body.the_row, (kept Name.the_row, (kept ItemId.the_row, tt)))))
+
+pub page_heading_send : IsSend PageHeading.the_row
+page_heading_send = declared_send PageHeading.the_type (exchange_send, (name.the_send, (item_id.the_send, tt)))
+
+pub page_reading_send : IsSend PageReading.the_row
+page_reading_send = declared_send PageReading.the_type (exchange_send, (page_reader.the_send, tt))
+
+pub page_last_send : IsSend PageLast.the_row
+page_last_send = variants_send PageLast.enum ((kept Page.the_row, tt), ((page_fault.the_send, tt), (tt, tt)))
+
+pub page_over_send : IsSend PageOver.the_row
+page_over_send = declared_send PageOver.the_type (page_last_send, (kept Exchange.the_row, tt))
+
+pub page_stage_send : IsSend PageStage.the_row
+page_stage_send = variants_send PageStage.enum ((unbegun.the_send, tt), ((page_heading_send, tt), ((page_reading_send, tt), ((page_over_send, tt), (tt, tt)))))
+
+pub recovery_send : IsSend Recovery.the_row
+recovery_send = view_send _ _ _ _ _ (declared_send RecoveryInside.the_type (search crosses depth 20, (sought_send, (page_stage_send, tt))))
+
+pub open_talk_send : IsSend OpenTalk.the_row
+open_talk_send = declared_send OpenTalk.the_type (recovery_send, (item_id.the_send, (search (crosses, sendable) depth 20, tt)))
+
+pub talk_send : IsSend Talk.the_row
+talk_send = variants_send Talk.enum (tt, ((open_talk_send, tt), ((stream_page.the_send, tt), (tt, tt))))
+
+pub recovering_send : IsSend Recovering.the_row
+recovering_send = view_send _ _ _ _ _ (declared_send RecoveringInside.the_type (search crosses depth 20, (stream_send, (search (again.the_send, as_row_send, sendable) depth 20, (talk_send, tt)))))
+
 pub streaming_send : IsSend Streaming.the_row
-streaming_send = declared_send Streaming.the_type (grant_send, (stream_send, tt))
+streaming_send = declared_send Streaming.the_type (grant_send, (recovering_send, tt))
 
 pub closing_send : IsSend Closing.the_row
 closing_send = declared_send Closing.the_type (grant_send, (kept KeptHold.the_row, (end_cause.the_send, tt)))

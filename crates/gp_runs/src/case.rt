@@ -17,7 +17,8 @@ const SESSIONS: usize = 100;
 ///
 /// Its lines are `words WORDS`; `| TEXT`, more of the file; `writes TURN`, with a number of bytes, `wait` or `fail`; `kit`, with which the
 /// doors of the next worker begin; and then `client TEXT` and `publisher TEXT`, one that comes and sends this, `answer TEXT`, what the
-/// origin answers to the next client that calls one, and `fails`, where the listeners fail as soon as nobody comes anymore.
+/// origin answers to the next client that calls one, `stays N`, where each client stays for so many reads behind its request, and `fails`, where
+/// the listeners fail as soon as nobody comes anymore.
 #[derive(Drop)]
 pub struct Case {
     alloc: Global,
@@ -136,11 +137,12 @@ impl Case {
         let Some(doors) = self.doors.last_mut() else {
             return Ok(false);
         };
-        if kind == "fails" {
-            doors.fail();
-            return Ok(true);
+        match kind {
+            "fails" => doors.fail(),
+            "stays" => doors.stay(rest.parse::<usize>().unwrap_or(0)),
+            _ => return doors.add(kind, unescaped(self.alloc, rest)?),
         }
-        doors.add(kind, unescaped(self.alloc, rest)?)
+        Ok(true)
     }
 
     /// Reads one line of the case. It says whether it is one.

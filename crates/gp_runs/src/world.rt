@@ -21,6 +21,8 @@ pub struct Doors {
     clients: Vec<Vec<u8>>,
     publishers: Vec<Vec<u8>>,
     answers: Vec<Vec<u8>>,
+    /// How often a client's link isn't ready to be read behind its input, before that ends.
+    stays: usize,
     /// How often each listener isn't ready behind its links, before it fails.
     idle: u64,
 }
@@ -32,6 +34,7 @@ impl Doors {
             clients: Vec::new(alloc),
             publishers: Vec::new(alloc),
             answers: Vec::new(alloc),
+            stays: 0,
             idle: 1_000_000_000_000,
         }
     }
@@ -39,6 +42,11 @@ impl Doors {
     /// The listeners fail as soon as nobody comes anymore.
     pub fn fail(&mut self) {
         self.idle = 0;
+    }
+
+    /// Each client stays for so many reads.
+    pub fn stay(&mut self, reads: usize) {
+        self.stays = reads;
     }
 
     /// Takes what a line says. It says whether it is one.
@@ -53,26 +61,38 @@ impl Doors {
     }
 }
 
-/// A link with this input.
-fn link(alloc: Global, input: &[u8]) -> Result<MemLink, AllocError>
+/// The turns of a link whose whole input is read at once, and which then isn't ready so often.
+fn reads(alloc: Global, stays: usize) -> Result<Turns, AllocError> {
+    let mut turns = Vec::new(alloc);
+    if 0 < stays {
+        turns.push(Turn::Bytes(1_000))?;
+    }
+    for _read in 0..stays {
+        turns.push(Turn::Wait)?;
+    }
+    Ok(Turns::from_vec(turns))
+}
+
+/// A link with this input, which isn't ready so often before it ends.
+fn link(alloc: Global, input: &[u8], stays: usize) -> Result<MemLink, AllocError>
     ensures { IfOk result (λ link. IsUnusedLink (told_link link)) }
 {
-    let none = Turns::new(alloc);
+    let turns = reads(alloc, stays)?;
     MemLink::new(
         alloc,
         Body::new(alloc, input)?,
         ROOM,
-        none,
+        turns,
         Turns::new(alloc),
     )
 }
 
-fn links(alloc: Global, inputs: &[Vec<u8>]) -> Result<Links, AllocError>
+fn links(alloc: Global, inputs: &[Vec<u8>], stays: usize) -> Result<Links, AllocError>
     ensures { IfOk result (All (λ (link : LinkState). IsUnusedLink (told_link link))) }
 {
     let mut links = Vec::new(alloc);
     for input in inputs {
-        links.push(link(alloc, input.as_slice())?)?;
+        links.push(link(alloc, input.as_slice(), stays)?)?;
     }
     Ok(Links::from_vec(links))
 }
@@ -107,8 +127,10 @@ fn dials(alloc: Global, answers: &[Vec<u8>]) -> Result<Dials, AllocError>
 fn kit(alloc: Global, doors: &Doors) -> Result<MemKit, AllocError>
     ensures { IfOk result IsUnusedMemKit }
 {
-    let clients = MemListen::new(links(alloc, doors.clients.as_slice())?, doors.idle);
-    let publishers = MemListen::new(links(alloc, doors.publishers.as_slice())?, doors.idle);
+    let clients = links(alloc, doors.clients.as_slice(), doors.stays)?;
+    let publishers = links(alloc, doors.publishers.as_slice(), 0)?;
+    let clients = MemListen::new(clients, doors.idle);
+    let publishers = MemListen::new(publishers, doors.idle);
     let dials = dials(alloc, doors.answers.as_slice())?;
     let gate = PairGate::new(alloc, 0)?;
     Ok(MemKit::new(alloc, clients, publishers, dials, Clocks::new(alloc), gate))
