@@ -316,10 +316,22 @@ module _ (v : StreamView) (w x : WireView) (s : SeatView) (now : ℕ) (f : WasFl
 
     pub unput : (told : Option EndCause) → PutsPart x y (framed v.chunked taken.pieces ++ last_chunk v.chunked told) → taken.ended ≡ told → IsServed a → Delivers v u w y s a now (streamed.Unput told)
     unput None p is free = record {
-      goes = goes_served p.part p.puts; sound = sound_now p.part p.puts; holds = holds_open is; serves = λ _. free; misses = (taken.recover, misses_at); asks = tt; says = stopped None p is;
+      goes = goes_served p.part p.puts;
+      sound = sound_now p.part p.puts;
+      holds = holds_open is;
+      serves = λ _. free;
+      misses = (taken.recover, misses_at);
+      asks = tt;
+      says = stopped None p is;
     }
     unput (Some cause) p is free = record {
-      goes = goes_served p.part p.puts; sound = sound_now p.part p.puts; holds = holds_ended cause is; serves = λ _. free; misses = (taken.recover, misses_at); asks = tt; says = stopped (Some cause) p is;
+      goes = goes_served p.part p.puts;
+      sound = sound_now p.part p.puts;
+      holds = holds_ended cause is;
+      serves = λ _. free;
+      misses = (taken.recover, misses_at);
+      asks = tt;
+      says = stopped (Some cause) p is;
     }
 
   -- what a Take came to

@@ -131,12 +131,7 @@ impl Stream {
     }
 
     /// Sends all that waits, takes once, and puts what was given. `now` is the moment of this poll in seconds.
-    pub fn turn<L: Link>(
-        &mut self,
-        wire: &mut Wire<L>,
-        seat: &mut Seat<'_>,
-        now: u64,
-    ) -> Streamed
+    pub fn turn<L: Link>(&mut self, wire: &mut Wire<L>, seat: &mut Seat<'_>, now: u64) -> Streamed
         requires { Streams self.old wire.old seat.old }
         ensures { Delivers self.old self.new wire.old wire.new seat.old seat.new now result }
     {

@@ -45,7 +45,9 @@ impl Asked {
         ensures { result ≡ asking_by self channel link }
     {
         let Asked {
-            request, address, ..
+            request,
+            address,
+            ..
         } = self;
         let Whole { head, .. } = request;
         Again::new(head, address, channel, link)

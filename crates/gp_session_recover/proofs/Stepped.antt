@@ -329,7 +329,7 @@ spec_same e = cc
 pub asks_someone : (signer : Signer) (now : ℕ) (v u : StreamView) (again : Option AgainView) (talk : Talk) (w x : WireView) (l : LineView) (s t : SeatView) (from : List ℕ) → IsReady signer (TurnSides v again talk w l s) → Delivers v u w x s t now (streamed.Missing from) → is_some again ≡ true
 asks_someone signer now v u again talk w x l s t from r d =
     let link : (terms_of r.streams.share.spec).link ≡ true =
-        asks_link r.streams.share.spec d.says.1.taken from ((subst (λ (n : ℕ). HasTaken s.pass t.pass n now d.says.1.taken) d.goes.number d.says.1.took).fits r.streams.share r.streams.is.there).recovers d.says.1.recover d.says.1.open_is in
+    asks_link r.streams.share.spec d.says.1.taken from ((subst (λ (n : ℕ). HasTaken s.pass t.pass n now d.says.1.taken) d.goes.number d.says.1.took).fits r.streams.share r.streams.is.there).recovers d.says.1.recover d.says.1.open_is in
     sym r.row.linked ∙ ap (λ (spec : HoldSpec). (terms_of spec).link) (spec_same (sym r.row.spec_is ∙ ap (option_map (λ share. share.spec)) r.streams.is.there)) ∙ link
 
 none_talking : (talk : Talk) → (IsTalking talk → ⊥) → talk ≡ NoTalk
@@ -517,9 +517,10 @@ stepped_by signer now a b c (stepped.Ends answer) st waited e = halts_from signe
 
 -- why a poll waits behind some that gave
 pub why_idle : (signer : Signer) (now count : ℕ) (a b c : Sides) → Running signer now a b count → StepsAs signer now b c stepped.Idle → RunsAs signer now a c polled.Pending
-why_idle signer now count a b c r e =
-    (stays_again signer now a b c r.stays e.0,
-    idle_why (talk_waited_from c.is.talk a.line b.line c.line r.stays.goes.line e.1) e.2 (idles_from (hold_of a) now a.seat b.seat c.seat r.stays.goes.seat (subst (λ (n : ℕ). Idles n now b.seat c.seat) r.stays.goes.number e.3)))
+why_idle signer now count a b c r e = (
+  stays_again signer now a b c r.stays e.0,
+  idle_why (talk_waited_from c.is.talk a.line b.line c.line r.stays.goes.line e.1) e.2 (idles_from (hold_of a) now a.seat b.seat c.seat r.stays.goes.seat (subst (λ (n : ℕ). Idles n now b.seat c.seat) r.stays.goes.number e.3)),
+)
 
 pub why_unsent : (signer : Signer) (now count : ℕ) (a b c : Sides) → Running signer now a b count → StepsAs signer now b c stepped.Unsent → RunsAs signer now a c polled.Pending
 why_unsent signer now count a b c r e =
