@@ -344,7 +344,7 @@ module _ (l : LiveView) (turns : List Turn) (asked : Asked) (behind : Behind l.c
       by_reported l turns asked behind held told (PollsFor p now) hold own attached same (line_nothing l p rows hold.number share is.there asked_for bytes)
 
 finish_begins : (l : LiveView) (g : Grant) (rows : Granting l g) → HasRecalled l g rows → BeginsTalks l.line (aims_for l g rows)
-finish_begins l g rows (alone row) = begins_alone l.line (aims_for l g rows) row
+finish_begins l g rows (alone row pages) = begins_alone l.line (aims_for l g rows) row
 finish_begins l g rows (recalled hold last c) = closed_begins l.charter.signer (source_of g c.spec) (aims_for l g rows) c.qs hold.number l.line l.seat c.row
 
 pub headline_end : (l : LiveView) (ended : Ended) → PhaseFinishes l ended → HasHeadline l

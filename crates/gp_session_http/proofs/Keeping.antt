@@ -152,7 +152,7 @@ module _ (v : LiveView) (s : AttachingStage) (told : AttachingTold v s) (t : Sea
         seat = rows.heard.seat;
         reported = none_reported now holds;
         released = λ _. none_kept now holds;
-        by = inl (record { grant = s.grant; rows = rows; entries = at; talks = alone told.alone; says = says });
+        by = inl (record { grant = s.grant; rows = rows; entries = at; talks = alone told.alone (pages_none t (entries told.is.entries)); says = says });
       };
     })
 
@@ -262,7 +262,7 @@ module _ (v : LiveView) (g : Grant) (h : IsDeclinedAt v g) (x : WireView) (start
       seat = h.rows.heard.seat;
       reported = none_reported v h.is.holds;
       released = λ _. none_kept v h.is.holds;
-      by = inl (record { grant = g; rows = granting_wire v x g h.rows moved_here received_here; entries = inl (entries_paging v.seat h.is.entries); talks = alone h.alone; says = full_wanting (declined_still v x moved_here received_here h.rows.heard.turns (AsksFor g) h.is) (sent_same v.wire x [] h.bytes start (ap (λ (t : LinkTells). t.sent) link) rest) });
+      by = inl (record { grant = g; rows = granting_wire v x g h.rows moved_here received_here; entries = inl (entries_paging v.seat h.is.entries); talks = alone h.alone (pages_none v.seat h.is.entries); says = full_wanting (declined_still v x moved_here received_here h.rows.heard.turns (AsksFor g) h.is) (sent_same v.wire x [] h.bytes start (ap (λ (t : LinkTells). t.sent) link) rest) });
     };
   })
 
@@ -288,7 +288,7 @@ module _ (v : LiveView) (s : DecliningStage) (h : DecliningTold v s) (x : WireVi
       seat = h.rows.heard.seat;
       reported = none_reported v h.is.holds;
       released = λ _. none_kept v h.is.holds;
-      by = inl (record { grant = s.grant; rows = granting_wire v x s.grant h.rows flush_moved fl.passed.received; entries = entries; talks = alone h.alone; says = says });
+      by = inl (record { grant = s.grant; rows = granting_wire v x s.grant h.rows flush_moved fl.passed.received; entries = entries; talks = alone h.alone (pages_none v.seat h.is.entries); says = says });
     };
   })
 

@@ -247,9 +247,9 @@ pub data HeldEnds (l : LiveView) (turns : List Turn) (g : Grant) : SessionEnd �
   leaving_worn : (hold : KeptView) (parting : Parting) → HasAttached l turns (AsksFor g) → IsLastHold l hold → LeavesAs parting l (stream_of g hold) → IsWorn l.seat → HeldEnds l turns g Worn why.Nothing
   let_go : (hold : KeptView) (parting : Parting) → HasAttached l turns (AsksFor g) → IsLastHold l hold → DetachedRow true l.seat hold.number → LeftAs parting l g hold → HeldEnds l turns g (end_of parting) why.Nothing
 
--- what was asked of origins: nothing behind the answer, or what the last hold missed
+-- what was asked of origins: nothing behind the answer, and no page was brought; or what the last hold missed
 pub data HasRecalled (l : LiveView) (g : Grant) (rows : Granting l g) : Type 0 where
-  alone : Alone l g rows → HasRecalled l g rows
+  alone : Alone l g rows → PagesRow l.seat [] → HasRecalled l g rows
   recalled : (hold : KeptView) → IsLastHold l hold → Recalled l g rows hold.number → HasRecalled l g rows
 
 -- the answer asked for a stream, or for a long poll

@@ -34,7 +34,7 @@ use Rattle.gp_session.specs.Wires.{WireView}
 use Rattle.gp_session.specs.declared.paging.StreamPage.{StreamPage}
 use Rattle.gp_session_hold.specs.Rows.{PagesRow, recovers_at}
 use Rattle.gp_session_hold.specs.Streams.{StreamView}
-use Rattle.gp_session_recover.specs.Quests.{AreAsked, IsQuestBy, Quest, after_quest, after_quests, aims_of, event_of, events_of, ids_of, moments_of}
+use Rattle.gp_session_recover.specs.Quests.{AreAsked, CameTo, IsQuestBy, Quest, after_quest, after_quests, aims_of, event_of, events_of, ids_of, moments_of}
 use Rattle.gp_session_recover.specs.Talks.{FailedPage, GoesOn, GotPage, LostPage}
 use Rattle.gp_session_recover.specs.Rows.{AsksOf, Closed, IsCutTalk, IsOpen, IsOver, IsShortTalk, IsTalking, OpenRow, RecoveringView, Recovers, SeeksAs, SeeksOpen, Seeks, Sides, Stood, TalkRow, UntoldRow, follow, hold_of, id_open, moment_open, waits, got, failed, lost}
 use Rattle.gp_session_recover.specs.Polls.{ClosedOn, RecoversOn, Timed, moments_at}
@@ -139,7 +139,7 @@ module _ (signer : Signer) (source : Option AgainView) (aims : List Aim) (qs : L
     quest so = record { moment = t.moment.value; sought = so }
 
     module _ (so : Sought) (sought : so.sought ≡ t.recovery.sought) (next : Option AgainView) (is_next : next ≡ option_map (λ (o : AgainView). after_quest o (quest so)) again)
-        (row : SeeksRow l (aims ++ aims_of qs) t.recovery → LineRow m ((aims ++ aims_of qs) ++ aim_sought so ∷ []) idle) where
+        (row : SeeksRow l (aims ++ aims_of qs) t.recovery → LineRow m ((aims ++ aims_of qs) ++ aim_sought so ∷ []) idle) (came : CameTo so.end) where
       after_all : next ≡ option_map (λ (o : AgainView). after_quests o (qs ++ quest so ∷ [])) source
       after_all = is_next ∙ ap (option_map (λ (o : AgainView). after_quest o (quest so))) r.stood.again ∙ sym (again_more source qs (quest so))
 
@@ -148,6 +148,7 @@ module _ (signer : Signer) (source : Option AgainView) (aims : List Aim) (qs : L
         to = ap (λ x. x.to) sought ∙ is.to;
         channel = ap (λ x. x.channel) sought ∙ is.channel;
         request = subst (λ x. Asks o signer t.moment.value x.from x.request) (sym sought) (subst (λ f. Asks o signer t.moment.value f t.recovery.sought.request) (sym is.from) is.request);
+        came = came;
       }
 
       asked_all : AreAsked signer source (qs ++ quest so ∷ [])
@@ -247,13 +248,13 @@ module _ (signer : Signer) (source : Option AgainView) (aims : List Aim) (qs : L
   open_on again t u l m room holds start r (got page link is asks_is g) =
       let so : Sought = record { sought = t.recovery.sought; at = g.at; end = last.Got g.got } in
       subst (λ (x : Talk). RecoversOn signer source aims qs now (behind again (Open t) l) (behind u.again x m)) (sym is)
-      (page_on signer source aims qs now stream w s again t l m start r so refl u.again (asks_is ∙ ap (λ k. follow k again) g.link_is) (g.row (aims ++ aims_of qs)) page
+      (page_on signer source aims qs now stream w s again t l m start r so refl u.again (asks_is ∙ ap (λ k. follow k again) g.link_is) (g.row (aims ++ aims_of qs)) tt page
       (ap (λ f. event.Page stream.hold.number f g.got.value.to g.got.value.bytes g.got.value.then ∷ []) (from_open signer again t r.stood.talk.1.is) ∙ ap (λ p. page_event stream.hold.number p ∷ []) (sym g.page_is))
       (ap (λ p. is_short_page p.bytes) g.page_is ∙ short_answered t.recovery.sought g.got.value g.answered))
   open_on again t u l m room holds start r (failed is asks_is g) =
       let so : Sought = record { sought = t.recovery.sought; at = g.at; end = last.Failed g.fault } in
       subst (λ (x : Talk). RecoversOn signer source aims qs now (behind again (Open t) l) (behind u.again x m)) (sym is)
-      (failed_on signer source aims qs now stream w s again t l m start r so refl u.again (asks_is ∙ same_again again (record { moment = t.moment.value; sought = so }) (λ o. refl)) (g.row (aims ++ aims_of qs)) refl)
+      (failed_on signer source aims qs now stream w s again t l m start r so refl u.again (asks_is ∙ same_again again (record { moment = t.moment.value; sought = so }) (λ o. refl)) (g.row (aims ++ aims_of qs)) tt refl)
   open_on again t u l m room holds start r (lost is asks_is g) = absurd (let both : false ≡ true = holds in (cc))
 
   still_on : (again : Option AgainView) (talk : Talk) (u : RecoveringView) (l m : LineView) → Recovers signer source aims qs (behind again talk l) → u.talk ≡ talk → u.again ≡ again → m ≡ l

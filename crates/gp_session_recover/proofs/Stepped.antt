@@ -99,22 +99,25 @@ seek_waited (Page page) v u l m is e = subst (λ (x : Talk). OpenWaited x l m) (
 seek_waited Failed v u l m is e = subst (λ (x : Talk). OpenWaited x l m) (sym (e.talk ∙ is)) tt
 
 module _ (signer : Signer) (now : ℕ) (a : Sides) (streams : Streams a.is.stream a.wire a.seat) (u : RecoveringView) (m : LineView) where
+  goes_sought : u.stream ≡ a.is.stream → MovedLine a.line m → Goes a (record a { is = u; line = m })
+  goes_sought stream moved = record {
+    number = ap (λ (v : StreamView). v.hold.number) stream;
+    chunked = ap (λ (v : StreamView). v.chunked) stream;
+    head = ap (λ (v : StreamView). v.head) stream;
+    wire = moved_wire_same a.wire;
+    received = refl;
+    ends = refl;
+    line = moved;
+    seat = moved_seat_same a.seat;
+    row = λ r. r;
+    entries = λ r. r;
+    attaches = λ specs refused r. r;
+  }
+
   -- the talk was polled
   pub stays_sought : Seeks a.is u a.line m true → Stays signer now a (record a { is = u; line = m })
   stays_sought e = record {
-    goes = record {
-      number = ap (λ (v : StreamView). v.hold.number) e.stream;
-      chunked = ap (λ (v : StreamView). v.chunked) e.stream;
-      head = ap (λ (v : StreamView). v.head) e.stream;
-      wire = moved_wire_same a.wire;
-      received = refl;
-      ends = refl;
-      line = e.moved;
-      seat = moved_seat_same a.seat;
-      row = λ r. r;
-      entries = λ r. r;
-      attaches = λ specs refused r. r;
-    };
+    goes = goes_sought e.stream e.moved;
     holds = λ reports r. subst (λ (v : StreamView). HoldsRow a.seat reports (kept v.hold)) (sym e.stream) r;
     free = λ f. f;
     sound = refl;
@@ -124,19 +127,7 @@ module _ (signer : Signer) (now : ℕ) (a : Sides) (streams : Streams a.is.strea
 
   pub halts_sought : Seeks a.is u a.line m false → Halts signer now a (record a { is = u; line = m }) polled.NoMemory
   halts_sought e = record {
-    goes = record {
-      number = ap (λ (v : StreamView). v.hold.number) e.stream;
-      chunked = ap (λ (v : StreamView). v.chunked) e.stream;
-      head = ap (λ (v : StreamView). v.head) e.stream;
-      wire = moved_wire_same a.wire;
-      received = refl;
-      ends = refl;
-      line = e.moved;
-      seat = moved_seat_same a.seat;
-      row = λ r. r;
-      entries = λ r. r;
-      attaches = λ specs refused r. r;
-    };
+    goes = goes_sought e.stream e.moved;
     holds = λ reports r. subst (λ (v : StreamView). HoldsRow a.seat reports (kept v.hold)) (sym e.stream) r;
     serves = λ f. f;
     sound = tt;

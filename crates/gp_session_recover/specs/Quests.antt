@@ -29,11 +29,18 @@ abbrev pub after_quests : AgainView → List Quest → AgainView
 after_quests o [] = o
 after_quests o (q ∷ qs) = after_quests (after_quest o q) qs
 
--- a quest asks this of the origin: the page behind an id, by the link last seen, with a token of its own moment
+-- a talk came to something that the hub is told: a page, or that it can't be had. Where memory was wanting it came to nothing
+abbrev pub CameTo : RecoveryEnd → Type 0
+CameTo (Got page) = ⊤
+CameTo (Failed fault) = ⊤
+CameTo NoMemory = ⊥
+
+-- a quest asks this of the origin: the page behind an id, by the link last seen, with a token of its own moment; and its talk came to something
 pub record IsQuestBy (o : AgainView) (signer : Signer) (q : Quest) : Type 0 where
   pub to : q.sought.sought.to ≡ o.address
   pub channel : q.sought.sought.channel ≡ o.channel
   pub request : Asks o signer q.moment q.sought.sought.from q.sought.sought.request
+  pub came : CameTo q.sought.end
 
 -- so does each of quests, one after the other
 abbrev pub AreQuests : Signer → AgainView → List Quest → Type 0
