@@ -1,3 +1,5 @@
 pub mod Asked
 pub mod Untouched
 pub mod Taking
+pub mod Unrecovered
+pub mod Failures

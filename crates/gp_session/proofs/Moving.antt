@@ -14,7 +14,7 @@ use Rattle.gp_outside.specs.Links.{LinkTells, LinkLater}
 use Rattle.gp_outbox.specs.declared.outbox.Flushed.{Flushed}
 use Rattle.gp_hub.specs.Passes.{HubView, who_of}
 use Rattle.gp_intake.specs.Polls.{Hears}
-use Rattle.gp_session.specs.Wires.{WireView, new_wire, MovedWire, RequestRow, Sent, Flushes}
+use Rattle.gp_session.specs.Wires.{WireView, new_wire, SaysMore, MovedWire, RequestRow, Sent, Flushes}
 use Rattle.gp_session.specs.Seats.{SeatView, new_seat, MovedSeat, IsSamePass, IsFresh, IsApart, SeatRow, HasNoHolds, Busied}
 use Rattle.gp_session.specs.Causes.{ReadWaited, WriteWaited}
 use Rattle.gp_session.proofs.Calling.{same_again}
@@ -36,13 +36,55 @@ grown_twice : (told : Option (List ℕ)) (some more : List ℕ) → grown (grown
 grown_twice None some more = refl
 grown_twice (Some bytes) some more = ap Some (append_assoc bytes some more)
 
+-- the bytes
+
+pub sent_same : (v w : WireView) (all : List ℕ) → Sent v all → w.start ≡ v.start → w.link.sent ≡ v.link.sent → w.rest ≡ v.rest → Sent w all
+sent_same v w all s start sent rest = record {
+  sent = s.sent;
+  since = sent ∙ s.since ∙ ap (λ (t : LinkTells). grown t.sent s.sent) (sym start);
+  whole = ap (λ (xs : List ℕ). s.sent ++ xs) rest ∙ s.whole;
+}
+
+pub sent_flushed : (v w : WireView) (all : List ℕ) (flushed : Flushed) → Sent v all → Flushes v w flushed → Sent w all
+sent_flushed v w all flushed s f = record {
+  sent = s.sent ++ f.passed.out;
+  since = f.passed.sent ∙ ap (λ told. grown told f.passed.out) s.since ∙ grown_twice v.start.sent s.sent f.passed.out ∙ ap (λ (t : LinkTells). grown t.sent (s.sent ++ f.passed.out)) (sym f.start);
+  whole = append_assoc s.sent f.passed.out w.rest ∙ ap (λ (xs : List ℕ). s.sent ++ xs) (sym f.passed.split) ∙ s.whole;
+}
+
+pub sent_put : (v w : WireView) (all more : List ℕ) → Sent v all → w.start ≡ v.start → w.link ≡ v.link → w.rest ≡ v.rest ++ more → Sent w (all ++ more)
+sent_put v w all more s start link rest = record {
+  sent = s.sent;
+  since = ap (λ (t : LinkTells). t.sent) link ∙ s.since ∙ ap (λ (t : LinkTells). grown t.sent s.sent) (sym start);
+  whole = ap (λ (xs : List ℕ). s.sent ++ xs) rest ∙ sym (append_assoc s.sent v.rest more) ∙ ap (λ (xs : List ℕ). xs ++ more) s.whole;
+}
+
+-- what is said grows
+
+pub says_same : (v w : WireView) → w.start ≡ v.start → w.link.sent ≡ v.link.sent → w.rest ≡ v.rest → SaysMore v w []
+says_same v w start sent rest = λ text s. sent_same v w (text ++ []) (subst (Sent v) (sym (append-nil text)) s) start sent rest
+
+pub says_flushed : (v w : WireView) (f : Flushed) → Flushes v w f → SaysMore v w []
+says_flushed v w f h = λ text s. subst (Sent w) (sym (append-nil text)) (sent_flushed v w text f s h)
+
+pub says_put : (v w : WireView) (more : List ℕ) → w.start ≡ v.start → w.link ≡ v.link → w.rest ≡ v.rest ++ more → SaysMore v w more
+says_put v w more start link rest = λ text s. sent_put v w text more s start link rest
+
+pub says_again : (u v w : WireView) (a b : List ℕ) → SaysMore u v a → SaysMore v w b → SaysMore u w (a ++ b)
+says_again u v w a b h k = λ text s. subst (Sent w) (append_assoc text a b) (k (text ++ a) (h text s))
+
 -- moves one after another
 
 pub moved_wire_same : (v : WireView) → MovedWire v v
-moved_wire_same v = record { start = refl; later = later_same v.link }
+moved_wire_same v = record { start = refl; later = later_same v.link; more = []; says = says_same v v refl refl refl }
 
 pub moved_wire_again : (u v w : WireView) → MovedWire u v → MovedWire v w → MovedWire u w
-moved_wire_again u v w a b = record { start = b.start ∙ a.start; later = later_later u.link v.link w.link a.later b.later }
+moved_wire_again u v w a b = record {
+  start = b.start ∙ a.start;
+  later = later_later u.link v.link w.link a.later b.later;
+  more = a.more ++ b.more;
+  says = says_again u v w a.more b.more a.says b.says;
+}
 
 same_pass_same : (p : HubView) → IsSamePass p p
 same_pass_same p = record { turn = refl; number = refl; spare = refl; past = refl; parts = refl }
@@ -76,8 +118,8 @@ busied_from s t u a b = record { looked = omega (arith, a.looks, b.looked); odd 
 pub rose_since : (v : WireView) (w : WireView) (count : LinkTells → ℕ) → w.start ≡ v.start → count v.start ≤ count v.link → Rose (count v.link) (count w.link) → Rose (count w.start) (count w.link)
 rose_since v w count start le rose = subst (λ (t : LinkTells). Rose (count t) (count w.link)) (sym start) (rose_from (count v.start) (count v.link) (count w.link) le rose)
 
-pub later_since : (v w : WireView) → LinkLater v.start v.link → MovedWire v w → LinkLater w.start w.link
-later_since v w later moved = subst (λ (t : LinkTells). LinkLater t w.link) (sym moved.start) (later_later v.start v.link w.link later moved.later)
+pub later_since : (v w : WireView) → LinkLater v.start v.link → w.start ≡ v.start → LinkLater v.link w.link → LinkLater w.start w.link
+later_since v w later start more = subst (λ (t : LinkTells). LinkLater t w.link) (sym start) (later_later v.start v.link w.link later more)
 
 -- the request
 
@@ -96,37 +138,20 @@ request_same v w P Q r start same on = record {
   asks = on r.received r.asks;
 }
 
--- the bytes
-
-pub sent_same : (v w : WireView) (all : List ℕ) → Sent v all → w.start ≡ v.start → w.link.sent ≡ v.link.sent → w.rest ≡ v.rest → Sent w all
-sent_same v w all s start sent rest = record {
-  sent = s.sent;
-  since = sent ∙ s.since ∙ ap (λ (t : LinkTells). grown t.sent s.sent) (sym start);
-  whole = ap (λ (xs : List ℕ). s.sent ++ xs) rest ∙ s.whole;
-}
-
-pub sent_flushed : (v w : WireView) (all : List ℕ) (flushed : Flushed) → Sent v all → Flushes v w flushed → Sent w all
-sent_flushed v w all flushed s f = record {
-  sent = s.sent ++ f.passed.out;
-  since = f.passed.sent ∙ ap (λ told. grown told f.passed.out) s.since ∙ grown_twice v.start.sent s.sent f.passed.out ∙ ap (λ (t : LinkTells). grown t.sent (s.sent ++ f.passed.out)) (sym f.start);
-  whole = append_assoc s.sent f.passed.out w.rest ∙ ap (λ (xs : List ℕ). s.sent ++ xs) (sym f.passed.split) ∙ s.whole;
-}
-
-pub sent_put : (v w : WireView) (all more : List ℕ) → Sent v all → w.start ≡ v.start → w.link ≡ v.link → w.rest ≡ v.rest ++ more → Sent w (all ++ more)
-sent_put v w all more s start link rest = record {
-  sent = s.sent;
-  since = ap (λ (t : LinkTells). t.sent) link ∙ s.since ∙ ap (λ (t : LinkTells). grown t.sent s.sent) (sym start);
-  whole = ap (λ (xs : List ℕ). s.sent ++ xs) rest ∙ sym (append_assoc s.sent v.rest more) ∙ ap (λ (xs : List ℕ). xs ++ more) s.whole;
-}
-
 pub moved_flushed : (v w : WireView) (flushed : Flushed) → Flushes v w flushed → MovedWire v w
-moved_flushed v w flushed f = record { start = f.start; later = f.passed.later }
+moved_flushed v w flushed f = record { start = f.start; later = f.passed.later; more = []; says = says_flushed v w flushed f }
 
-pub moved_heard : (v w : WireView) (more : List ℕ) → w.start ≡ v.start → Hears v.link w.link more → MovedWire v w
-moved_heard v w more start hears = record { start = start; later = hears.later }
+pub moved_heard : (v w : WireView) (heard : List ℕ) → w.start ≡ v.start → w.rest ≡ v.rest → Hears v.link w.link heard → MovedWire v w
+moved_heard v w heard start rest hears = record { start = start; later = hears.later; more = []; says = says_same v w start hears.sent rest }
 
-pub moved_put : (v w : WireView) → w.start ≡ v.start → w.link ≡ v.link → MovedWire v w
-moved_put v w start link = record { start = start; later = subst (λ (t : LinkTells). LinkLater v.link t) (sym link) (later_same v.link) }
+pub later_put : (v w : WireView) → w.link ≡ v.link → LinkLater v.link w.link
+later_put v w link = subst (λ (t : LinkTells). LinkLater v.link t) (sym link) (later_same v.link)
+
+pub moved_put : (v w : WireView) (more : List ℕ) → w.start ≡ v.start → w.link ≡ v.link → w.rest ≡ v.rest ++ more → MovedWire v w
+moved_put v w more start link rest = record { start = start; later = later_put v w link; more = more; says = says_put v w more start link rest }
+
+pub moved_none_put : (v w : WireView) → w.start ≡ v.start → w.link ≡ v.link → w.rest ≡ v.rest → MovedWire v w
+moved_none_put v w start link rest = moved_put v w [] start link (rest ∙ sym (append-nil v.rest))
 
 -- a session that begins
 

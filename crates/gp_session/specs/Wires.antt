@@ -17,11 +17,6 @@ pub record WireView : Type 0 where
 abbrev pub new_wire : LinkTells → WireView
 new_wire link = record { start = link; link = link; rest = [] }
 
--- what every move keeps: how the session began, and that no count fell
-pub record MovedWire (v w : WireView) : Type 0 where
-  pub start : w.start ≡ v.start
-  pub later : LinkLater v.link w.link
-
 -- Row: the request. The bytes received since the session began are so.
 pub record RequestRow (w : WireView) (Asks : List ℕ → Type 0) : Type 0 where
   pub received : List ℕ
@@ -33,6 +28,17 @@ pub record Sent (w : WireView) (all : List ℕ) : Type 0 where
   pub sent : List ℕ
   pub since : w.link.sent ≡ grown w.start.sent sent
   pub whole : sent ++ w.rest ≡ all
+
+-- what was said to the client grew by these bytes
+abbrev pub SaysMore : WireView → WireView → List ℕ → Type 0
+SaysMore v w more = (text : List ℕ) → Sent v text → Sent w (text ++ more)
+
+-- what every move keeps: how the session began, that no count fell, and that nothing that was said is taken back
+pub record MovedWire (v w : WireView) : Type 0 where
+  pub start : w.start ≡ v.start
+  pub later : LinkLater v.link w.link
+  pub more : List ℕ
+  pub says : SaysMore v w more
 
 -- what a session says to its client: this text, or a beginning of it
 pub data Shape : Type 0 where

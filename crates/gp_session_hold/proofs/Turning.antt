@@ -165,7 +165,7 @@ module _ (v : StreamView) (w x : WireView) (s : SeatView) (now : ℕ) (f : WasFl
       number = counts.number;
       chunked = chunked;
       head = head;
-      wire = moved_wire_again w x y f.wire (moved_put x y p.start p.link);
+      wire = moved_wire_again w x y f.wire (moved_put x y bytes p.start p.link p.rest);
       received = ap (λ (l : LinkTells). l.received) p.link ∙ f.received;
       ends = ap (λ (l : LinkTells). l.ends) p.link ∙ f.ends;
       seat = moved;

@@ -33,7 +33,7 @@ use Rattle.gp_session.specs.Watches.{WatchView, WatchRow, Uses}
 use Rattle.gp_session.specs.Wires.{WireView, MovedWire, BytesRow, exactly, Flushes}
 use Rattle.gp_session.specs.declared.holding.LetGo.TheVariants as let_go_is
 use Rattle.gp_session.proofs.Lining.{begins_talk}
-use Rattle.gp_session.proofs.Moving.{rose_since, sent_same, sent_put, sent_flushed, moved_put, moved_flushed, moved_wire_same, moved_seat_same}
+use Rattle.gp_session.proofs.Moving.{rose_since, sent_same, sent_put, sent_flushed, moved_put, moved_none_put, moved_flushed, moved_wire_same, moved_seat_same}
 use Rattle.gp_session_hold.specs.Leaves.{LeavesHold}
 use Rattle.gp_session_hold.specs.Opens.{OpensTo}
 use Rattle.gp_session_hold.specs.Rows.{KeptView, IsKept, IsCounted, IsReleased, none, kept, over, holds_of, reports_of, HoldsRow, EntriesRow, DetachedRow, AttachRow}
@@ -66,7 +66,7 @@ use Rattle.gp_session_http.specs.Routing.{IsServed as IsRequestServed}
 use Rattle.gp_session_http.specs.Trace.{BeginsWith, HeardAs, WasAsked}
 use Rattle.gp_session_http.specs.Turns.{Turn, Behind, again, AreHeld, aims_of, specs_before, reports_before}
 use Rattle.gp_session_http.specs.Views.{LiveView, Goes}
-use Rattle.gp_session_http.proofs.Rows.{no_parts}
+use Rattle.gp_session_http.proofs.Rows.{no_parts, watch_same}
 use Rattle.gp_session_http.proofs.Hearing.{none_waits}
 use Rattle.gp_session_http.proofs.Talking.{askable}
 use Rattle.gp_session_http.proofs.Granting.{with_held, goes_on, heard_on, heard_none, calls_on, unattached_same, none_more, same_more, none_reported, none_kept}
@@ -97,7 +97,7 @@ module _ (v : LiveView) (s : BeginningStage) (told : BeginningTold v s) (u : Wat
   begun_spec = spec_at s.opening now
 
   pub begun_went : Goes v begun_now
-  begun_went = goes_on v v.wire u t r (moved_wire_same v.wire) uses.moved.start moved
+  begun_went = goes_on v v.wire u t r (moved_wire_same v.wire) uses.moved moved
 
   abbrev begun_rows : Polling begun_now s.poll
   begun_rows = polling_on v v.wire u t r s.poll told.rows (moved_wire_same v.wire) [] (heard_none v.wire.link.received) (calls_on v.watch u now uses told.rows.heard.calls) (times told.rows.heard.times) moved row (same_more v.reports.items r.items items)
@@ -144,6 +144,7 @@ module _ (v : LiveView) (s : BeginningStage) (told : BeginningTold v s) (u : Wat
         to = (
           subst (λ (b : OpeningView). BeginningTold begun_now (record { poll = s.poll; opening = b; again = s.again })) (sym is) (record { rows = begun_rows; is = unbegun; served = o.1.free; opens = told.opens; again = told.again }),
           o.1.busy,
+          refl,
         );
       }
 
@@ -160,19 +161,22 @@ polling_wire v x p h moved same = polling_on v x v.watch v.seat v.reports p h mo
 
 -- the refusal is put
 module _ (v : LiveView) (p : Poll) (h : IsDeniedAt v p) (x : WireView) (start : x.start ≡ v.wire.start) (link : x.link ≡ v.wire.link) where
-  deny_moved : MovedWire v.wire x
-  deny_moved = moved_put v.wire x start link
+  deny_moved : (more : List ℕ) → x.rest ≡ v.wire.rest ++ more → MovedWire v.wire x
+  deny_moved more rest = moved_put v.wire x more start link rest
+
+  deny_none : x.rest ≡ v.wire.rest → MovedWire v.wire x
+  deny_none rest = moved_none_put v.wire x start link rest
 
   deny_received : x.link.received ≡ v.wire.link.received
   deny_received = ap (λ (t : LinkTells). t.received) link
 
   pub denies : x.rest ≡ v.wire.rest ++ full_text → HeldLeads v (with_held v x v.watch v.seat v.reports) 5 (Go (Denying (record { poll = p })))
   denies rest = record {
-    moved = went_client v x deny_moved deny_received;
+    moved = went_client v x (deny_moved full_text rest) deny_received;
     to = (
       record {
-        rows = polling_wire v x p h.rows deny_moved deny_received;
-        is = declined_still v x deny_moved deny_received h.rows.heard.turns (MayPoll p) h.is;
+        rows = polling_wire v x p h.rows (deny_moved full_text rest) deny_received;
+        is = declined_still v x (deny_moved full_text rest) deny_received h.rows.heard.turns (MayPoll p) h.is;
         served = h.served;
         bytes = sent_put v.wire x [] full_text h.bytes start link rest;
       },
@@ -182,8 +186,8 @@ module _ (v : LiveView) (p : Poll) (h : IsDeniedAt v p) (x : WireView) (start : 
   }
 
   pub denies_not : x.rest ≡ v.wire.rest → (ended : Ended) → ended ≡ record { end = end.NoMemory; why = why.Full } → HeldLeads v (with_held v x v.watch v.seat v.reports) 5 (End ended)
-  denies_not rest ended is = poll_end v (with_held v x v.watch v.seat v.reports) 5 p end.NoMemory why.Full (went_client v x deny_moved deny_received) (polling_wire v x p h.rows deny_moved deny_received) (inl h.is.entries) (none_reported v h.is.holds) (λ _. none_kept v h.is.holds)
-      (denied_wanting (declined_still v x deny_moved deny_received h.rows.heard.turns (MayPoll p) h.is) (sent_same v.wire x [] h.bytes start (ap (λ (t : LinkTells). t.sent) link) rest)) ended is
+  denies_not rest ended is = poll_end v (with_held v x v.watch v.seat v.reports) 5 p end.NoMemory why.Full (went_client v x (deny_none rest) deny_received) (polling_wire v x p h.rows (deny_none rest) deny_received) (inl h.is.entries) (none_reported v h.is.holds) (λ _. none_kept v h.is.holds)
+      (denied_wanting (declined_still v x (deny_none rest) deny_received h.rows.heard.turns (MayPoll p) h.is) (sent_same v.wire x [] h.bytes start (ap (λ (t : LinkTells). t.sent) link) rest)) ended is
 
 module _ (v : LiveView) (s : DenyingStage) (h : DenyingTold v s) (x : WireView) (f : Flushed) (fl : Flushes v.wire x f) where
   denied_now : Goes v (with_held v x v.watch v.seat v.reports)
@@ -217,6 +221,7 @@ denying_waits v s h x fl = record {
   to = (
     record { rows = denied_rows v s h x flushed.NotReady fl; is = still_denied v s h x flushed.NotReady fl; served = h.served; bytes = denied_bytes v s h x flushed.NotReady fl },
     record { some = fl.cause.0; waited = fl.cause.1 },
+    refl,
   );
 }
 
@@ -234,7 +239,7 @@ module _ (v : LiveView) (p : Poll) (wait : WaitView) (kept_again : Option Asked)
 
   module _ (answer : Polled) (w : PollsWait wait v.wire x v.seat t now answer) where
     pub wait_went : Goes v heard_now
-    wait_went = goes_on v x u t v.reports w.wire uses.moved.start w.seat
+    wait_went = goes_on v x u t v.reports w.wire uses.moved w.seat
 
     abbrev wait_rows : Polling heard_now p
     wait_rows = polling_on v x u t v.reports p h.keeps.rows w.wire w.heard w.received (calls_on v.watch u now uses h.keeps.rows.heard.calls) (times h.keeps.rows.heard.times) w.seat w.row (none_more v.reports.items)
@@ -419,6 +424,7 @@ answering_waits v s h x fl = record {
   to = (
     record { rows = answer_rows v s h x flushed.NotReady fl; served = h.served; is = still_answers v s h x flushed.NotReady fl },
     record { some = fl.cause.0; waited = fl.cause.1 },
+    refl,
   );
 }
 
@@ -429,7 +435,7 @@ module _ (v : LiveView) (s : DepartingStage) (h : DepartingTold v s) (t : SeatVi
   gone_poll = with_held v v.wire v.watch t v.reports
 
   pub depart_went : Goes v gone_poll
-  depart_went = goes_on v v.wire v.watch t v.reports (moved_wire_same v.wire) refl moved
+  depart_went = goes_on v v.wire v.watch t v.reports (moved_wire_same v.wire) (watch_same v.watch) moved
 
   abbrev depart_rows : Polling gone_poll s.poll
   depart_rows = polling_on v v.wire v.watch t v.reports s.poll h.keeps.rows (moved_wire_same v.wire) [] (heard_none v.wire.link.received) h.keeps.rows.heard.calls h.keeps.rows.heard.times moved row (none_more v.reports.items)
@@ -467,7 +473,7 @@ module _ (v : LiveView) (s : DepartingStage) (h : DepartingTold v s) (t : SeatVi
     depart_worn is = stays (record { moment = h.moment; keeps = depart_keeps; still = depart_still; worn = is })
 
     pub depart_busy : IsServed t → Busied v.seat t → HeldLeads v gone_poll 1 (Wait (Departing s))
-    depart_busy served busy = record { moved = depart_went; to = (record { moment = h.moment; keeps = depart_keeps; served = served; still = depart_still; by = parts_on s.parting h.by }, busy) }
+    depart_busy served busy = record { moved = depart_went; to = (record { moment = h.moment; keeps = depart_keeps; served = served; still = depart_still; by = parts_on s.parting h.by }, busy, refl) }
 
 -- the request is repeated
 
@@ -524,7 +530,7 @@ module _ (v : LiveView) (p : Poll) (kept_again : Option Asked) (r : Repeat) (h :
     again_now = with_held v v.wire u v.seat q
 
     again_went : Goes v again_now
-    again_went = goes_on v v.wire u v.seat q (moved_wire_same v.wire) uses.moved.start (moved_seat_same v.seat)
+    again_went = goes_on v v.wire u v.seat q (moved_wire_same v.wire) uses.moved (moved_seat_same v.seat)
 
     abbrev this_turn : Turn
     this_turn = record {
@@ -610,6 +616,7 @@ module _ (v : LiveView) (p : Poll) (kept_again : Option Asked) (r : Repeat) (h :
                 times = subst (λ (a : Asked). WasAsked u a.moment) (sym is) (record { last = times heard.times moment uses.moment; calls = calls_on v.watch u moment uses heard.calls; row = times heard.times });
                 stays = record { seat = heard.seat; served = h.served; links = heard.links; dials = heard.dials };
               };
+              timed = uses.moment ∙ ap (λ (a : Asked). Some a.moment) (sym is);
               count = ap (λ (rs : List HoldReport). length rs) grown_reports ∙ length-append v.reports.items (report r.hold.number missed.retried.share ∷ []);
               few =
                   let turns = ap (λ (rs : List HoldReport). length rs) before_reports in

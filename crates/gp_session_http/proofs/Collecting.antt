@@ -180,7 +180,7 @@ module _ (v : LiveView) (s : GatheringStage) (part : List ℕ) (h : HasCome v s 
     parts = h.parts ++ part ∷ [];
     cut = cut_more;
     rows = hung_rows l moved row;
-    fails = inr (inl (record { head = s.head; has = h.at.has; long = let count : length (s.content ++ part) ≡ length s.content + length part = length-append s.content part in omega (arith, long, count) }));
+    fails = inr (inl (record { head = s.head; reading = h.at.reading; has = h.at.has; long = let count : length (s.content ++ part) ≡ length s.content + length part = length-append s.content part in omega (arith, long, count) }));
   }
 
   -- it is kept
@@ -371,23 +371,26 @@ holds_answer v s answer h wish a p =
     let rows = heard_with v s answer h g.asked.value g.exchange.value g.answer.value p.grant.asked_is p.grant.exchange_is p.grant.answer_is in
     record {
       moved = moved_same v;
-      to = record {
-        rows = record {
-          heard = rows.0;
-          is = record {
-            wish = given (λ x y z. IsWish z Stream) wish;
-            code = given (λ x y z. g.code ≡ code_by z.head (status_of z.instruct)) p.grant.code;
-            chunked = given (λ x y z. g.chunked ≡ in_chunks (streamed x.request.head.version)) p.grant.chunked;
+      to = (
+        record {
+          rows = record {
+            heard = rows.0;
+            is = record {
+              wish = given (λ x y z. IsWish z Stream) wish;
+              code = given (λ x y z. g.code ≡ code_by z.head (status_of z.instruct)) p.grant.code;
+              chunked = given (λ x y z. g.chunked ≡ in_chunks (streamed x.request.head.version)) p.grant.chunked;
+            };
           };
-        };
-        alone = rows.1;
-        is = rows.2;
-        served = h.rows.stays.served;
-        spec_is = given (λ x y z. IsHoldOf z x.moment a.spec) p.spec_is;
-        fit = fits_by answer.instruct answer.body s.asked.moment a.spec (λ instruct e. counted_by (has_type h.head.fields) h.head h.content answer instruct h.read e) wish.1 p.spec_is;
-        head = given (λ x y z. a.head ≡ stream_head_by z x.request.head.version) p.head;
-        again = given (λ x y z. a.again ≡ source_at x (link_of z.instruct) a.spec) p.again;
-      };
+          alone = rows.1;
+          is = rows.2;
+          served = h.rows.stays.served;
+          spec_is = given (λ x y z. IsHoldOf z x.moment a.spec) p.spec_is;
+          fit = fits_by answer.instruct answer.body s.asked.moment a.spec (λ instruct e. counted_by (has_type h.head.fields) h.head h.content answer instruct h.read e) wish.1 p.spec_is;
+          head = given (λ x y z. a.head ≡ stream_head_by z x.request.head.version) p.head;
+          again = given (λ x y z. a.again ≡ source_at x (link_of z.instruct) a.spec) p.again;
+        },
+        tt,
+      );
     }
 
 pub polls_answer : (v : LiveView) (s : AskingStage) (answer : Answer) → IsAnsweredWith v s answer → IsWish answer Poll → (b : BeginningStage) → IsPosed s.asked s.exchange answer b → Leads v v 2 (Hold (Beginning b))
@@ -397,13 +400,16 @@ polls_answer v s answer h wish b p =
     let rows = heard_with v s answer h q.asked.value q.exchange.value q.answer.value p.asked_is p.exchange_is p.answer_is in
     record {
       moved = moved_same v;
-      to = record {
-        rows = record { heard = rows.0; talks = rows.1; wish = given (λ x y z. IsWish z Poll) wish };
-        is = rows.2;
-        served = h.rows.stays.served;
-        opens = given (λ x y z. IsOpeningOf z x.repeats b.opening) p.opens;
-        again = given (λ x y z. b.again ≡ kept_for x (may_repeat b.opening.channel b.opening.repeats)) p.again;
-      };
+      to = (
+        record {
+          rows = record { heard = rows.0; talks = rows.1; wish = given (λ x y z. IsWish z Poll) wish };
+          is = rows.2;
+          served = h.rows.stays.served;
+          opens = given (λ x y z. IsOpeningOf z x.repeats b.opening) p.opens;
+          again = given (λ x y z. b.again ≡ kept_for x (may_repeat b.opening.channel b.opening.repeats)) p.again;
+        },
+        tt,
+      );
     }
 
 few_behind : (c : Charter) (turns : List Turn) (asked : Asked) → Behind c turns asked → asked.repeats ≤ most_repeats

@@ -17,7 +17,7 @@ use Rattle.gp_exchange.specs.Views.{ExchangeView}
 use Rattle.gp_exchange.proofs.Leading.{later_later}
 use Rattle.gp_session.specs.Lines.{LineView, MovedLine}
 use Rattle.gp_session.specs.Seats.{SeatView, MovedSeat, SeatRow}
-use Rattle.gp_session.specs.Watches.{WatchView, WatchRow, Uses, Asks as AsksClock}
+use Rattle.gp_session.specs.Watches.{WatchView, MovedWatch, WatchRow, Uses, Asks as AsksClock}
 use Rattle.gp_session.specs.Wires.{WireView, MovedWire}
 use Rattle.gp_session.proofs.Moving.{later_since, moved_wire_same, moved_wire_again, moved_seat_same, moved_seat_again, busied_from, write_waited_from}
 use Rattle.gp_session_hold.specs.Rows.{EntriesRow, AttachRow, HoldsRow, none, holds_of, reports_of, IsReleased}
@@ -25,6 +25,8 @@ use Rattle.gp_session_wait.specs.Waits.{most_repeats}
 use Rattle.gp_session_http.specs.declared.asked.Asked.{Asked}
 use Rattle.gp_session_http.specs.declared.asking.Asking.{Asking as AskingStage}
 use Rattle.gp_session_http.specs.declared.grant.Grant.{Grant}
+use Rattle.gp_session_http.specs.declared.streaming.Streaming.{Streaming as StreamingStage}
+use Rattle.gp_session_http.specs.declared.waiting.Waiting.{Waiting as WaitingStage}
 use Rattle.gp_session_http.specs.declared.held.Held.{Held}
 use Rattle.gp_session_http.specs.declared.held.Held.TheVariants.{Attaching, Declining, Streaming, Closing, Leaving, Beginning, Denying, Waiting, Answering, Departing}
 use Rattle.gp_session_http.specs.declared.held.HeldNext.{HeldNext}
@@ -34,28 +36,28 @@ use Rattle.gp_session_http.specs.Turns.{Turn, Behind, first as asked_first, agai
 use Rattle.gp_session_http.specs.Views.{LiveView, Moved, Goes}
 use Rattle.gp_session_http.specs.Trace.{BeginsWith}
 use Rattle.gp_session_http.specs.Heard.{Heard, IsUnattached}
-use Rattle.gp_session_http.specs.Holding.{Granting, HeldPends, GoesReported, AsksAgain, HeldLeads, HeldLeadsTo}
-use Rattle.gp_session_http.proofs.Rows.{line_same, line_again}
+use Rattle.gp_session_http.specs.Holding.{Granting, HeldPends, GoesTo, AsksAgain, HeldLeads, HeldLeadsTo, IsOnward, PollTimes, StreamTimes}
+use Rattle.gp_session_http.proofs.Rows.{line_same, line_again, watch_same, watch_again, rose_again}
 
 abbrev pub with_held : LiveView → WireView → WatchView → SeatView → Roomy HoldReport → LiveView
 with_held v x u t r = record { wire = x; line = v.line; watch = u; seat = t; charter = v.charter; reports = r }
 
 -- moves, and moves one after another
 
-pub goes_on : (v : LiveView) (x : WireView) (u : WatchView) (t : SeatView) (r : Roomy HoldReport) → MovedWire v.wire x → u.start ≡ v.watch.start → MovedSeat v.seat t → Goes v (with_held v x u t r)
+pub goes_on : (v : LiveView) (x : WireView) (u : WatchView) (t : SeatView) (r : Roomy HoldReport) → MovedWire v.wire x → MovedWatch v.watch u → MovedSeat v.seat t → Goes v (with_held v x u t r)
 goes_on v x u t r wire watch seat = record { wire = wire; line = line_same v.line; watch = watch; seat = seat; charter = refl }
 
 pub goes_of : (v w : LiveView) → Moved v w → Goes v w
 goes_of v w m = record { wire = m.wire; line = m.line; watch = m.watch; seat = m.seat; charter = m.charter }
 
 pub goes_same : (v : LiveView) → Goes v v
-goes_same v = record { wire = moved_wire_same v.wire; line = line_same v.line; watch = refl; seat = moved_seat_same v.seat; charter = refl }
+goes_same v = record { wire = moved_wire_same v.wire; line = line_same v.line; watch = watch_same v.watch; seat = moved_seat_same v.seat; charter = refl }
 
 pub goes_again : (u v w : LiveView) → Goes u v → Goes v w → Goes u w
 goes_again u v w a b = record {
   wire = moved_wire_again u.wire v.wire w.wire a.wire b.wire;
   line = line_again u.line v.line w.line a.line b.line;
-  watch = b.watch ∙ a.watch;
+  watch = watch_again u.watch v.watch w.watch a.watch b.watch;
   seat = moved_seat_again u.seat v.seat w.seat a.seat b.seat;
   charter = b.charter ∙ a.charter;
 }
@@ -102,39 +104,60 @@ held_pends_from u v w (Departing s) m p = busied_from u.seat v.seat w.seat m.sea
 
 -- a move after one that changed no report
 
-reported_from : (u v w : LiveView) (stage : Held) → v.reports.items ≡ u.reports.items → GoesReported v w stage → GoesReported u w stage
-reported_from u v w (Attaching s) same g = tt
-reported_from u v w (Declining s) same g = tt
-reported_from u v w (Streaming s) same g = tt
-reported_from u v w (Closing s) same g = tt
-reported_from u v w (Leaving s) same g = tt
-reported_from u v w (Beginning s) same g = absurd g
-reported_from u v w (Denying s) same g = tt
-reported_from u v w (Waiting s) same g = g ∙ same
-reported_from u v w (Answering s) same g = tt
-reported_from u v w (Departing s) same g = tt
+goes_to_from : (u v w : LiveView) (stage : Held) → v.reports.items ≡ u.reports.items → GoesTo v w stage → GoesTo u w stage
+goes_to_from u v w (Attaching s) same g = tt
+goes_to_from u v w (Declining s) same g = tt
+goes_to_from u v w (Streaming s) same g = g
+goes_to_from u v w (Closing s) same g = tt
+goes_to_from u v w (Leaving s) same g = tt
+goes_to_from u v w (Beginning s) same g = absurd g
+goes_to_from u v w (Denying s) same g = tt
+goes_to_from u v w (Waiting s) same g = (g.0 ∙ same, g.1)
+goes_to_from u v w (Answering s) same g = tt
+goes_to_from u v w (Departing s) same g = tt
 
 again_from : (u v w : LiveView) (s : AskingStage) → v.reports.items ≡ u.reports.items → AsksAgain v w s → AsksAgain u w s
 again_from u v w s same a = record {
   told = a.told;
+  timed = a.timed;
   count = a.count ∙ ap (λ (rs : List HoldReport). length rs + 1) same;
   few = subst (λ (rs : List HoldReport). length rs < most_repeats) same a.few;
 }
 
-held_to_from : (u v w : LiveView) (k n : ℕ) (next : HeldNext) → Goes u v → v.reports.items ≡ u.reports.items → k ≤ n → HeldLeadsTo v w k next → HeldLeadsTo u w n next
-held_to_from u v w k n (Go stage) m same le l = (l.0, omega (arith, le, l.1), reported_from u v w stage same l.2)
-held_to_from u v w k n (Wait stage) m same le l = (l.0, held_pends_from u v w stage m l.1)
-held_to_from u v w k n (Again stage) m same le l = (again_from u v w stage same l.0, omega (arith, le, l.1))
-held_to_from u v w k n (End ended) m same le l = l
+held_to_from : (u v w : LiveView) (k n : ℕ) (next : HeldNext) → Goes u v → v.reports.items ≡ u.reports.items → k ≡ n → HeldLeadsTo v w k next → HeldLeadsTo u w n next
+held_to_from u v w k n (Go stage) m same rank l = (l.0, omega (arith, rank, l.1), goes_to_from u v w stage same l.2)
+held_to_from u v w k n (Wait stage) m same rank l = (l.0, held_pends_from u v w stage m l.1, l.2 ∙ rank)
+held_to_from u v w k n (Again stage) m same rank l = (again_from u v w stage same l.0, omega (arith, rank, l.1))
+held_to_from u v w k n (End ended) m same rank l = l
 
-pub held_from : (u v w : LiveView) (k n : ℕ) (next : HeldNext) → Goes u v → v.reports.items ≡ u.reports.items → k ≤ n → HeldLeads v w k next → HeldLeads u w n next
-held_from u v w k n next m same le l = record { moved = goes_again u v w m l.moved; to = held_to_from u v w k n next m same le l.to }
+pub held_from : (u v w : LiveView) (k n : ℕ) (next : HeldNext) → Goes u v → v.reports.items ≡ u.reports.items → k ≡ n → HeldLeads v w k next → HeldLeads u w n next
+held_from u v w k n next m same rank l = record { moved = goes_again u v w m l.moved; to = held_to_from u v w k n next m same rank l.to }
 
 pub held_live : (v x w : LiveView) (n : ℕ) (next : HeldNext) → v ≡ x → HeldLeads v w n next → HeldLeads x w n next
 held_live v x w n next e l = subst (λ (y : LiveView). HeldLeads y w n next) e l
 
 pub held_is : (v w : LiveView) (n : ℕ) (a b : HeldNext) → a ≡ b → HeldLeads v w n b → HeldLeads v w n a
 held_is v w n a b e l = subst (HeldLeads v w n) (sym e) l
+
+-- a move that the poll doesn't wait behind says nothing of what waits
+
+pub onward_stream : (v w : LiveView) (s : StreamingStage) (next : HeldNext) → IsOnward next → StreamTimes v w s next
+onward_stream v w s (Go next) on = tt
+onward_stream v w s (Wait next) on = absurd on
+onward_stream v w s (Again next) on = tt
+onward_stream v w s (End ended) on = tt
+
+pub onward_poll : (s : WaitingStage) (next : HeldNext) → IsOnward next → PollTimes s next
+onward_poll s (Go next) on = tt
+onward_poll s (Wait next) on = absurd on
+onward_poll s (Again next) on = tt
+onward_poll s (End ended) on = tt
+
+pub onward_is : (a b : HeldNext) → a ≡ b → IsOnward b → IsOnward a
+onward_is a b e on = subst IsOnward (sym e) on
+
+pub timed_live : (v x w : LiveView) (s : StreamingStage) (next : HeldNext) → v ≡ x → StreamTimes v w s next → StreamTimes x w s next
+timed_live v x w s next e t = subst (λ (y : LiveView). StreamTimes y w s next) e t
 
 -- the rows that all stages have
 
@@ -189,7 +212,7 @@ module _ (v : LiveView) (x : WireView) (u : WatchView) (t : SeatView) (r : Roomy
     calls = calls;
     times = times;
     seat = row h.seat;
-    links = later_since v.wire x h.links moved;
+    links = later_since v.wire x h.links moved.start moved.later;
     dials = h.dials;
   }
 
@@ -232,9 +255,6 @@ granting_seat v t r g h seat row more = record { heard = heard_seat v t r g.aske
 
 abbrev pub granting_line : (v : LiveView) (m : LineView) (g : Grant) → Granting v g → MovedLine v.line m → Granting (record v { line = m }) g
 granting_line v m g h moved = record { heard = heard_line v m g.asked.value g.exchange.value g.answer.value h.heard moved; is = h.is }
-
-rose_again : (a b c : ℕ) → Rose a b → Rose b c → Rose a c
-rose_again a b c p q = omega (arith, p, q)
 
 -- the clock was asked once more, or not
 pub calls_on : (v u : WatchView) (now : ℕ) → Uses v u now → Rose v.start.calls v.clock.calls → Rose u.start.calls u.clock.calls

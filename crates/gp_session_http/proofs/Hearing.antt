@@ -11,11 +11,12 @@ use Rattle.gp_routes.specs.declared.route.Route.{Route}
 use Rattle.gp_intake.specs.declared.fault.RequestFault.{RequestFault}
 use Rattle.gp_intake.specs.declared.fault.RequestFault.TheVariants.{HeadTooLarge, Head, Target, Host, Plan, Chunk, TooLong}
 use Rattle.gp_intake.specs.declared.body.Whole.{Whole}
+use Rattle.gp_intake.specs.Bodies.{IsOpen}
 use Rattle.gp_intake.specs.Heads.{IsBegun}
 use Rattle.gp_intake.specs.Requests.{HeadedView, IsHeaded, IsUnderway, IsWhole, IsHeadRefusedBy, IsBodyRefusedBy}
 use Rattle.gp_intake.specs.Polls.{Hears, IsGone, IsStillUnderway, UsedHead, UsedBody}
 use Rattle.gp_session.specs.Wires.{WireView, RequestRow, BytesRow, exactly, Sent}
-use Rattle.gp_session.proofs.Moving.{rose_since, request_more, request_same, sent_same, sent_put, moved_heard, moved_put}
+use Rattle.gp_session.proofs.Moving.{rose_since, request_more, request_same, sent_same, sent_put, moved_heard, later_put}
 use Rattle.gp_session_http.specs.declared.cause.Cause.{Cause}
 use Rattle.gp_session_http.specs.declared.cause.Cause.TheVariants as cause
 use Rattle.gp_session_http.specs.declared.stage.Stage.TheVariants.{ReadingHead, ReadingBody, Refusing}
@@ -28,7 +29,7 @@ use Rattle.gp_session_http.specs.Routing.{IsRoutedTo, IsRouted, IsUnrouted, IsSe
 use Rattle.gp_session_http.specs.Views.{LiveView, Moved}
 use Rattle.gp_session_http.specs.Trace.{Asks, text_of, Stays, Told}
 use Rattle.gp_session_http.specs.Moves.{waits, Used, Leads, IsUnanswered, MayRefuse}
-use Rattle.gp_session_http.proofs.Rows.{with_wire, moved_over, moved_by_put, moved_unput, stays_wire, no_parts, says_same, request_used}
+use Rattle.gp_session_http.proofs.Rows.{with_wire, moved_over, moved_by_put, moved_unput, stays_wire, no_parts, request_used}
 
 pub unanswered_as : (l : LiveView) (P Q : List ℕ → Type 0) → IsUnanswered l P → ((received : List ℕ) → P received → Q received) → IsUnanswered l Q
 unanswered_as l P Q u on = record { request = request_same l.wire l.wire P Q u.request refl refl on; talks = u.talks; bytes = u.bytes; times = u.times; stays = u.stays }
@@ -37,7 +38,7 @@ unanswered_as l P Q u on = record { request = request_same l.wire l.wire P Q u.r
 
 module _ (v : LiveView) (w : WireView) (more : List ℕ) (start : w.start ≡ v.wire.start) (rest : w.rest ≡ v.wire.rest) (hears : Hears v.wire.link w.link more) where
   pub heard_moved : Moved v (with_wire v w)
-  heard_moved = moved_over v w [] (moved_heard v.wire w more start hears) (says_same v.wire w start hears.sent rest)
+  heard_moved = moved_over v w (moved_heard v.wire w more start rest hears)
 
   pub heard : (P Q : List ℕ → Type 0) → IsUnanswered v P → ((received : List ℕ) → P received → Q (received ++ more)) → IsUnanswered (with_wire v w) Q
   heard P Q u on = record {
@@ -45,7 +46,7 @@ module _ (v : LiveView) (w : WireView) (more : List ℕ) (start : w.start ≡ v.
     talks = u.talks;
     bytes = sent_same v.wire w [] u.bytes start hears.sent rest;
     times = u.times;
-    stays = stays_wire v w (moved_heard v.wire w more start hears) u.stays;
+    stays = stays_wire v w start hears.later u.stays;
   }
 
   pub gone_since : Stays v → IsGone v.wire.link w.link → Rose w.start.faults w.link.faults ⊎ Rose w.start.ends w.link.ends
@@ -117,7 +118,7 @@ module _ (l : LiveView) (s : HeadStage) (n : ℕ) (u : LiveView) (moved : Moved 
     to = record {
       stage = ReadingHead s;
       told = record { given = t.given; parts = t.parts; cut = t.cut; request = t.request; talks = t.talks; aim = tt; at = tt; bytes = t.bytes; times = t.times; stays = t.stays };
-      says = elim gone [ inl f ↦ inl f | inr e ↦ inr (e, tt) ];
+      says = elim gone [ inl f ↦ inl f | inr e ↦ inr (e, tt, tt) ];
       why_is = refl;
     };
   })
@@ -134,13 +135,13 @@ module _ (l : LiveView) (s : BodyStage) (n : ℕ) (u : LiveView) (moved : Moved 
     };
   })
 
-  pub body_gone_end : Told l (ReadingBody s) → Rose l.wire.start.faults l.wire.link.faults ⊎ Rose l.wire.start.ends l.wire.link.ends → (ended : Ended) → ended ≡ record { end = end.ClientGone; why = why.Nothing } → Leads u l n (End ended)
-  body_gone_end t gone ended is = subst (λ (x : Ended). Leads u l n (End x)) (sym is) (record {
+  pub body_gone_end : Told l (ReadingBody s) → IsOpen s.intake.body.reading → Rose l.wire.start.faults l.wire.link.faults ⊎ Rose l.wire.start.ends l.wire.link.ends → (ended : Ended) → ended ≡ record { end = end.ClientGone; why = why.Nothing } → Leads u l n (End ended)
+  body_gone_end t open_is gone ended is = subst (λ (x : Ended). Leads u l n (End x)) (sym is) (record {
     moved = moved;
     to = record {
       stage = ReadingBody s;
       told = record { given = t.given; parts = t.parts; cut = t.cut; request = t.request; talks = t.talks; aim = tt; at = tt; bytes = t.bytes; times = t.times; stays = t.stays };
-      says = elim gone [ inl f ↦ inl f | inr e ↦ inr (e, tt) ];
+      says = elim gone [ inl f ↦ inl f | inr e ↦ inr (e, tt, open_is) ];
       why_is = refl;
     };
   })
@@ -219,7 +220,7 @@ module _ (v : LiveView) (s : BodyStage) (told : Told v (ReadingBody s)) (w : Wir
   body_gone h ended is =
       let t : BodyStage = record { intake = h.0.w; address = s.address } in
       body_gone_end (with_wire v w) t 4 v (heard_moved v w more start rest hears)
-      (told_body (with_wire v w) t (body_at (Asks v.charter (ReadingBody t)) (h.0.underway.headed, is_routed h.0.w.head h.0.w.path h.0.head_is h.0.path_is)))
+      (told_body (with_wire v w) t (body_at (Asks v.charter (ReadingBody t)) (h.0.underway.headed, is_routed h.0.w.head h.0.w.path h.0.head_is h.0.path_is))) h.0.underway.more
       (gone_since v w more start rest hears told.stays h.1) ended is
 
   pub body_no_memory : UsedBody s.intake (came ++ more) → (ended : Ended) → ended ≡ record { end = end.NoMemory; why = why.Nothing } → Leads v (with_wire v w) 4 (End ended)
@@ -243,7 +244,7 @@ module _ (v : LiveView) (w : WireView) (c : Cause) (method : List ℕ) (m : MayR
   text = ap (λ (x : Cause). refusal_text (refusal_of x) method) (sym cause_is) ∙ ap (refusal_text (refusal_of s.cause)) (sym method_is)
 
   still : Stays (with_wire v w)
-  still = stays_wire v w (moved_put v.wire w start link) m.stays
+  still = stays_wire v w start (later_put v.wire w link) m.stays
 
   pub refused_go : w.rest ≡ v.wire.rest ++ refusal_text (refusal_of c) method → Leads v (with_wire v w) 2 (Go (Refusing s))
   refused_go rest = record {

@@ -28,7 +28,7 @@ use Rattle.gp_session.specs.Seats.{SeatView, MovedSeat, SeatRow, IsServed, IsWor
 use Rattle.gp_session.specs.Watches.{WatchView, WatchRow, Uses}
 use Rattle.gp_session.specs.Wires.{WireView, MovedWire, BytesRow, exactly, Flushes}
 use Rattle.gp_session.specs.declared.holding.LetGo.TheVariants as let_go_is
-use Rattle.gp_session.proofs.Moving.{rose_since, sent_same, sent_put, sent_flushed, moved_put, moved_flushed, moved_wire_same, moved_seat_same}
+use Rattle.gp_session.proofs.Moving.{rose_since, sent_same, sent_put, sent_flushed, moved_put, moved_none_put, moved_flushed, moved_wire_same, moved_seat_same}
 use Rattle.gp_session_hold.specs.Leaves.{LeavesEntries, LeavesHold, stream_end}
 use Rattle.gp_session_hold.specs.Opens.{OpensTo}
 use Rattle.gp_session_hold.specs.Polls.{StreamPends}
@@ -62,7 +62,7 @@ use Rattle.gp_session_http.specs.Holding.{Granting, Recalled, aims_for, alone, r
 use Rattle.gp_session_http.specs.Views.{LiveView, Goes}
 use Rattle.gp_session_http.proofs.Granting.{with_held, goes_on, granting_line, granting_on, granting_wire, granting_seat, calls_on, unattached_same, none_more, same_more, none_reported, none_kept}
 use Rattle.gp_session_http.proofs.Recalling.{closed_first, linked_of, recovers_first}
-use Rattle.gp_session_http.proofs.Rows.{line_same}
+use Rattle.gp_session_http.proofs.Rows.{line_same, watch_same}
 
 -- the hold that was attached last
 
@@ -89,7 +89,7 @@ module _ (v : LiveView) (s : AttachingStage) (told : AttachingTold v s) (t : Sea
   rows = granting_seat v t r s.grant told.rows moved row (same_more v.reports.items r.items items)
 
   went_on : Goes v now
-  went_on = goes_on v v.wire v.watch t r (moved_wire_same v.wire) refl moved
+  went_on = goes_on v v.wire v.watch t r (moved_wire_same v.wire) (watch_same v.watch) moved
 
   module _ (entries : EntriesRow v.seat → EntriesRow t) where
     pub attached : (hold : KeptView) → OpensTo v.seat t s.spec r.spare (opened.Kept hold) → HoldsRow t r.items (kept hold) → AttachRow t (specs_before told.rows.heard.turns ++ s.spec ∷ []) None → IsAttachedAt now s.grant s.head s.again hold
@@ -142,6 +142,7 @@ module _ (v : LiveView) (s : AttachingStage) (told : AttachingTold v s) (t : Sea
           again = subst (λ (x : HoldSpec). s.again ≡ source_of s.grant x) (sym o.0) told.again;
         },
         o.1.busy,
+        refl,
       );
     }
 
@@ -169,7 +170,7 @@ module _ (v : LiveView) (x : WireView) (moved : MovedWire v.wire x) (received : 
   with_client = with_held v x v.watch v.seat v.reports
 
   pub went_client : Goes v with_client
-  went_client = goes_on v x v.watch v.seat v.reports moved refl (moved_seat_same v.seat)
+  went_client = goes_on v x v.watch v.seat v.reports moved (watch_same v.watch) (moved_seat_same v.seat)
 
   pub declined_still : (turns : List Turn) (Asks : HoldSpec → Type 0) → IsDeclined v turns Asks → IsDeclined with_client turns Asks
   declined_still turns Asks h = record { spec = h.spec; spec_is = h.spec_is; entries = h.entries; attaches = h.attaches; holds = h.holds }
@@ -182,7 +183,8 @@ module _ (v : LiveView) (g : Grant) (head : List ℕ) (again : Option AgainView)
   begins_at : PutsBehind v.wire x head → Streams (record { hold = hold; chunked = g.chunked; head = head }) x v.seat
       → HeldLeads v (with_held v x v.watch v.seat v.reports) 3 (Go (Streaming (record { grant = g; recovering = record { stream = record { hold = hold; chunked = g.chunked; head = head }; again = again; talk = NoTalk } })))
   begins_at puts streams =
-      let moved = moved_put v.wire x puts.start puts.link in
+      let moved = moved_put v.wire x head puts.start puts.link puts.rest in
+      let first = recovers_first v.charter.signer (source_of g h.share.spec) (aims_for v g h.keeps.rows) v.line v.seat hold h.share h.is.there h.unmissed h.pages h.alone h.keeps.rows.heard.dials (linked_of g h.share.spec h.spec_is) g.chunked head again h.again_is x in
       let received = ap (λ (t : LinkTells). t.received) puts.link in
       record {
         moved = went_client v x moved received;
@@ -192,15 +194,10 @@ module _ (v : LiveView) (g : Grant) (head : List ℕ) (again : Option AgainView)
             served = h.served;
             framed = ap (λ (b : List ℕ). record { hold = hold; chunked = g.chunked; head = b }) h.head_is;
             streams = streams;
-            recalls = record {
-              spec = h.share.spec;
-              spec_is = h.spec_is;
-              qs = [];
-              row = recovers_first v.charter.signer (source_of g h.share.spec) (aims_for v g h.keeps.rows) v.line v.seat hold h.share h.is.there h.unmissed h.pages h.alone (linked_of g h.share.spec h.spec_is) g.chunked head again h.again_is x;
-            };
+            recalls = record { spec = h.share.spec; spec_is = h.spec_is; qs = []; row = first };
           },
           omega arith,
-          tt,
+          record { untalked = refl; source = source_of g h.share.spec; aims = aims_for v g h.keeps.rows; row = first },
         );
       }
 
@@ -223,7 +220,7 @@ module _ (v : LiveView) (g : Grant) (head : List ℕ) (again : Option AgainView)
               spec = h.share.spec;
               spec_is = h.spec_is;
               qs = [];
-              row = closed_first v.charter.signer (source_of g h.share.spec) (aims_for v g h.keeps.rows) v.line v.seat hold h.share h.is.there h.unmissed h.pages h.alone;
+              row = closed_first v.charter.signer (source_of g h.share.spec) (aims_for v g h.keeps.rows) v.line v.seat hold h.share h.is.there h.unmissed h.pages h.alone h.keeps.rows.heard.dials;
             };
           },
           omega arith,
@@ -233,20 +230,23 @@ module _ (v : LiveView) (g : Grant) (head : List ℕ) (again : Option AgainView)
 
 -- the refusal is put
 module _ (v : LiveView) (g : Grant) (h : IsDeclinedAt v g) (x : WireView) (start : x.start ≡ v.wire.start) (link : x.link ≡ v.wire.link) where
-  moved_here : MovedWire v.wire x
-  moved_here = moved_put v.wire x start link
+  moved_here : (more : List ℕ) → x.rest ≡ v.wire.rest ++ more → MovedWire v.wire x
+  moved_here more rest = moved_put v.wire x more start link rest
+
+  moved_none : x.rest ≡ v.wire.rest → MovedWire v.wire x
+  moved_none rest = moved_none_put v.wire x start link rest
 
   received_here : x.link.received ≡ v.wire.link.received
   received_here = ap (λ (t : LinkTells). t.received) link
 
   pub declines : x.rest ≡ v.wire.rest ++ full_text → HeldLeads v (with_held v x v.watch v.seat v.reports) 3 (Go (Declining (record { grant = g })))
   declines rest = record {
-    moved = went_client v x moved_here received_here;
+    moved = went_client v x (moved_here full_text rest) received_here;
     to = (
       record {
-        rows = granting_wire v x g h.rows moved_here received_here;
+        rows = granting_wire v x g h.rows (moved_here full_text rest) received_here;
         alone = h.alone;
-        is = declined_still v x moved_here received_here h.rows.heard.turns (AsksFor g) h.is;
+        is = declined_still v x (moved_here full_text rest) received_here h.rows.heard.turns (AsksFor g) h.is;
         served = h.served;
         bytes = sent_put v.wire x [] full_text h.bytes start link rest;
       },
@@ -257,12 +257,12 @@ module _ (v : LiveView) (g : Grant) (h : IsDeclinedAt v g) (x : WireView) (start
 
   pub declines_not : x.rest ≡ v.wire.rest → (ended : Ended) → ended ≡ record { end = end.NoMemory; why = why.Full } → HeldLeads v (with_held v x v.watch v.seat v.reports) 3 (End ended)
   declines_not rest ended is = subst (λ (y : Ended). HeldLeads v (with_held v x v.watch v.seat v.reports) 3 (End y)) (sym is) (record {
-    moved = went_client v x moved_here received_here;
+    moved = went_client v x (moved_none rest) received_here;
     to = record {
       seat = h.rows.heard.seat;
       reported = none_reported v h.is.holds;
       released = λ _. none_kept v h.is.holds;
-      by = inl (record { grant = g; rows = granting_wire v x g h.rows moved_here received_here; entries = inl (entries_paging v.seat h.is.entries); talks = alone h.alone (pages_none v.seat h.is.entries); says = full_wanting (declined_still v x moved_here received_here h.rows.heard.turns (AsksFor g) h.is) (sent_same v.wire x [] h.bytes start (ap (λ (t : LinkTells). t.sent) link) rest) });
+      by = inl (record { grant = g; rows = granting_wire v x g h.rows (moved_none rest) received_here; entries = inl (entries_paging v.seat h.is.entries); talks = alone h.alone (pages_none v.seat h.is.entries); says = full_wanting (declined_still v x (moved_none rest) received_here h.rows.heard.turns (AsksFor g) h.is) (sent_same v.wire x [] h.bytes start (ap (λ (t : LinkTells). t.sent) link) rest) });
     };
   })
 
@@ -313,6 +313,7 @@ declining_waits v s h x fl = record {
       bytes = still_said v s h x flushed.NotReady fl;
     },
     record { some = fl.cause.0; waited = fl.cause.1 },
+    refl,
   );
 }
 
@@ -384,6 +385,7 @@ closing_waits v s h x fl = record {
       recalled = still_recalled v s h x flushed.NotReady fl;
     },
     record { some = fl.cause.0; waited = fl.cause.1 },
+    refl,
   );
 }
 
@@ -402,7 +404,7 @@ module _ (v : LiveView) (s : StreamingStage) (h : StreamingTold v s) (u : WatchV
   polled_stage = record { grant = s.grant; recovering = y }
 
   pub stream_went : Goes v polled_now
-  stream_went = record { wire = p.hears.wire; line = p.hears.line; watch = uses.moved.start; seat = p.hears.seat; charter = refl }
+  stream_went = record { wire = p.hears.wire; line = p.hears.line; watch = uses.moved; seat = p.hears.seat; charter = refl }
 
   abbrev stream_rows : Granting polled_now s.grant
   stream_rows = granting_line (with_held v x u t v.reports) m s.grant
@@ -476,6 +478,7 @@ module _ (v : LiveView) (s : StreamingStage) (h : StreamingTold v s) (u : WatchV
         moved_line = line_same v.line;
         talk = p.says.pends.1;
       },
+      refl,
     );
   }
 
@@ -572,7 +575,7 @@ module _ (v : LiveView) (r : Roomy HoldReport) where
   reported_now = with_held v v.wire v.watch v.seat r
 
   pub reported_went : Goes v reported_now
-  reported_went = goes_on v v.wire v.watch v.seat r (moved_wire_same v.wire) refl (moved_seat_same v.seat)
+  reported_went = goes_on v v.wire v.watch v.seat r (moved_wire_same v.wire) (watch_same v.watch) (moved_seat_same v.seat)
 
   abbrev reported_rows : (g : Grant) → Granting v g → IsPrefix v.reports.items r.items → Granting reported_now g
   reported_rows g h more = granting_seat v v.seat r g h (moved_seat_same v.seat) (λ row. row) more
@@ -696,7 +699,7 @@ module _ (v : LiveView) (s : LeavingStage) (h : LeavingTold v s) (t : SeatView) 
   gone_now = with_held v v.wire v.watch t v.reports
 
   pub gone_went : Goes v gone_now
-  gone_went = goes_on v v.wire v.watch t v.reports (moved_wire_same v.wire) refl moved
+  gone_went = goes_on v v.wire v.watch t v.reports (moved_wire_same v.wire) (watch_same v.watch) moved
 
   abbrev gone_rows : Granting gone_now s.grant
   gone_rows = granting_seat v t v.reports s.grant h.keeps.rows moved row (none_more v.reports.items)
@@ -721,6 +724,7 @@ module _ (v : LiveView) (s : LeavingStage) (h : LeavingTold v s) (t : SeatView) 
           open_id = c.open_id;
           more = c.more;
           ids = same ∙ c.ids;
+          dialed = c.dialed;
         };
       }
 
@@ -746,4 +750,4 @@ module _ (v : LiveView) (s : LeavingStage) (h : LeavingTold v s) (t : SeatView) 
     detach_worn asked entries holds on is = stays (record { keeps = keeps_here entries holds; leaves = still_leaves on; worn = is; recalled = asked })
 
     pub detach_busy : Recalled gone_now s.grant gone_rows s.hold.number → PagedRow t → HoldsRow t v.reports.items (kept s.hold) → ((share : Share) → IsKept v.seat s.hold share → IsKept t s.hold share) → IsServed t → Busied v.seat t → HeldLeads v gone_now 1 (Wait (Leaving s))
-    detach_busy asked entries holds on served busy = record { moved = gone_went; to = (record { keeps = keeps_here entries holds; served = served; leaves = still_leaves on; recalled = asked }, busy) }
+    detach_busy asked entries holds on served busy = record { moved = gone_went; to = (record { keeps = keeps_here entries holds; served = served; leaves = still_leaves on; recalled = asked }, busy, refl) }

@@ -11,3 +11,5 @@ pub mod Headlining
 pub mod Awaiting
 pub mod Turning
 pub mod Ending
+pub mod Refuting
+pub mod Completing

@@ -1,5 +1,6 @@
 -- What a stream that was attached says of what it asks for, before it has asked.
-use Rattle.std.proofs.Common.{◌≡◌, ℕ, List, [], ◌∷◌, ◌++◌, refl, sym, ap, ◌∙◌, subst, append-nil, append_assoc, Bool, true, false, Option, Some, None, IfSome, option_map, is_some}
+use Rattle.std.proofs.Common.{◌≡◌, ℕ, List, [], ◌∷◌, ◌++◌, refl, sym, ap, ◌∙◌, subst, append-nil, append_assoc, Bool, true, false, Option, Some, None, IfSome, option_map, is_some, arith}
+use Rattle.std.specs.List.{Contains}
 use Rattle.std.specs.Option.{option_map_or, option_to_list}
 use Rattle.std.proofs.lemmas.Grind.{flat_map-append}
 use Rattle.gp_plain.specs.Holds.{terms_of}
@@ -10,7 +11,7 @@ use Rattle.gp_plain.specs.declared.event.Event.TheVariants.{Detach}
 use Rattle.gp_plain.specs.declared.event.HoldSpec.{HoldSpec}
 use Rattle.gp_plain.specs.declared.event.HoldSpec.TheVariants.{Stream as StreamSpec, Plain, Response, Socket}
 use Rattle.gp_plain.specs.declared.http.Signer.{Signer}
-use Rattle.gp_outside.specs.Dials.{IsIdle}
+use Rattle.gp_outside.specs.Dials.{DialLater, IsIdle}
 use Rattle.gp_instruct.specs.Spec.{held_by, only_prev, stream_spec}
 use Rattle.gp_instruct.specs.declared.instruct.Instruct.{Instruct}
 use Rattle.gp_instruct.specs.declared.instruct.Mode.{Mode as Hold}
@@ -89,6 +90,9 @@ prepared_by asked x answer grant g a granted asks is = record {
 
 -- nothing was asked yet
 
+none_quested : (q : Quest) → Contains [] q → ⊥
+none_quested q (k, lt, at) = absurd (omega (arith, lt))
+
 none_asked : (signer : Signer) (source : Option AgainView) → AreAsked signer source []
 none_asked signer None = refl
 none_asked signer (Some o) = tt
@@ -98,7 +102,7 @@ after_none None = refl
 after_none (Some o) = refl
 
 module _ (signer : Signer) (source : Option AgainView) (aims : List Aim) (l : LineView) (s : SeatView) (hold : KeptView) (share : Share) (there : share_of_hold s hold.number ≡ Some share) (unmissed : share.recovers ≡ []) (pages : PagesRow s [])
-    (alone : IsIdle l.start → LineRow l aims idle) where
+    (alone : IsIdle l.start → LineRow l aims idle) (later : DialLater l.start l.dial) where
   no_ids : recovers_at s hold.number ≡ []
   no_ids = ap (λ (o : Option Share). option_map_or (λ (h : Share). h.recovers) o []) there ∙ unmissed
 
@@ -110,6 +114,7 @@ module _ (signer : Signer) (source : Option AgainView) (aims : List Aim) (l : Li
       asked = none_asked signer source;
       ids = no_ids;
       talk = (pages, λ idle_is. subst (λ (all : List Aim). LineRow l all idle) (sym (append-nil aims)) (alone idle_is));
+      dialed = record { later = later; rises = λ q there is. absurd (none_quested q there) };
     };
     spec = share.spec;
     spec_is = ap (option_map (λ (h : Share). h.spec)) there;
@@ -130,6 +135,7 @@ module _ (signer : Signer) (source : Option AgainView) (aims : List Aim) (l : Li
     open_id = None;
     more = None;
     ids = no_ids;
+    dialed = record { later = later; rises = λ q there is. absurd (none_quested q there) };
   }
 
 -- what was said before stands behind what is asked later

@@ -1,8 +1,9 @@
 -- What each kind of move does to the rows of a session.
-use Rattle.std.proofs.Common.{◌≡◌, ℕ, ◌≤◌, List, [], ◌++◌, refl, sym, ap, ◌∙◌, subst, arith, append-nil, append_assoc, inl, inr}
+use Rattle.std.proofs.Common.{◌≡◌, ℕ, ◌≤◌, ◌⊎◌, List, [], ◌++◌, refl, sym, ap, ◌∙◌, subst, arith, append-nil, append_assoc, inl, inr}
 use Rattle.std.proofs.lemmas.List.Elements.{All-nil}
 use Rattle.gp_outside.specs.Dials.{DialTells, DialLater, IsIdle}
-use Rattle.gp_outside.specs.Links.{LinkTells}
+use Rattle.gp_outside.specs.Counts.{Rose}
+use Rattle.gp_outside.specs.Links.{LinkTells, LinkLater}
 use Rattle.gp_outbox.specs.declared.outbox.Flushed.{Flushed}
 use Rattle.gp_outbox.specs.declared.outbox.Flushed.TheVariants as flushed
 use Rattle.gp_hub.specs.declared.outcome.SessionEnd.{SessionEnd}
@@ -11,8 +12,8 @@ use Rattle.gp_exchange.proofs.Leading.{later_same as dial_same, later_later as d
 use Rattle.gp_exchange.proofs.Causes.{waits_from}
 use Rattle.gp_session.specs.Wires.{WireView, MovedWire, RequestRow, Sent, BytesRow, Flushes}
 use Rattle.gp_session.specs.Lines.{Aim, LineView, MovedLine, LineRow, Last}
-use Rattle.gp_session.specs.Watches.{WatchView}
-use Rattle.gp_session.proofs.Moving.{rose_since, later_since, request_same, sent_flushed, sent_put, sent_same, moved_flushed, moved_put, moved_seat_same, moved_seat_again, moved_wire_same, moved_wire_again, read_waited_from, write_waited_from}
+use Rattle.gp_session.specs.Watches.{WatchView, MovedWatch, Asks as AsksClock}
+use Rattle.gp_session.proofs.Moving.{rose_since, later_since, request_same, sent_flushed, sent_put, sent_same, says_again, moved_flushed, moved_put, moved_none_put, moved_seat_same, moved_seat_again, moved_wire_same, moved_wire_again, read_waited_from, write_waited_from}
 use Rattle.gp_session_http.specs.declared.stage.Stage.{Stage}
 use Rattle.gp_session_http.specs.declared.stage.Stage.TheVariants.{ReadingHead, ReadingBody, Refusing, Asking, Gathering, Giving, Failing, Passing, Finishing}
 use Rattle.gp_session_http.specs.declared.stage.Ended.{Ended}
@@ -20,7 +21,7 @@ use Rattle.gp_session_http.specs.declared.stage.Next.{Next}
 use Rattle.gp_session_http.specs.declared.stage.Next.TheVariants.{Go, Wait, Hold, End}
 use Rattle.gp_session_http.specs.Routing.{Charter}
 use Rattle.gp_session_http.specs.Passing.{ArePartsOf}
-use Rattle.gp_session_http.specs.Views.{LiveView, Moved, SaysMore}
+use Rattle.gp_session_http.specs.Views.{LiveView, Moved}
 use Rattle.gp_plain.specs.declared.reply.HoldReport.{HoldReport}
 use Rattle.gp_session.specs.Seats.{SeatView}
 use Rattle.gp_session_http.specs.declared.asked.Asked.{Asked}
@@ -37,20 +38,6 @@ with_line v l = record { wire = v.wire; line = l; watch = v.watch; seat = v.seat
 abbrev pub with_watch : LiveView → WatchView → LiveView
 with_watch v w = record { wire = v.wire; line = v.line; watch = w; seat = v.seat; charter = v.charter; reports = v.reports }
 
--- what is said grows
-
-pub says_same : (v w : WireView) → w.start ≡ v.start → w.link.sent ≡ v.link.sent → w.rest ≡ v.rest → SaysMore v w []
-says_same v w start sent rest = λ text s. sent_same v w (text ++ []) (subst (Sent v) (sym (append-nil text)) s) start sent rest
-
-pub says_flushed : (v w : WireView) (f : Flushed) → Flushes v w f → SaysMore v w []
-says_flushed v w f h = λ text s. subst (Sent w) (sym (append-nil text)) (sent_flushed v w text f s h)
-
-pub says_put : (v w : WireView) (more : List ℕ) → w.start ≡ v.start → w.link ≡ v.link → w.rest ≡ v.rest ++ more → SaysMore v w more
-says_put v w more start link rest = λ text s. sent_put v w text more s start link rest
-
-pub says_again : (u v w : WireView) (a b : List ℕ) → SaysMore u v a → SaysMore v w b → SaysMore u w (a ++ b)
-says_again u v w a b h k = λ text s. subst (Sent w) (append_assoc text a b) (k (text ++ a) (h text s))
-
 -- moves, and moves one after another
 
 pub line_same : (l : LineView) → MovedLine l l
@@ -59,70 +46,77 @@ line_same l = record { start = refl; later = dial_same l.dial }
 pub line_again : (k l m : LineView) → MovedLine k l → MovedLine l m → MovedLine k m
 line_again k l m a b = record { start = b.start ∙ a.start; later = dial_later k.dial l.dial m.dial a.later b.later }
 
-pub moved_over : (v : LiveView) (w : WireView) (more : List ℕ) → MovedWire v.wire w → SaysMore v.wire w more → Moved v (with_wire v w)
-moved_over v w more m says = record { wire = m; line = line_same v.line; watch = refl; seat = moved_seat_same v.seat; charter = refl; reports = refl; more = more; says = says }
+pub rose_again : (a b c : ℕ) → Rose a b → Rose b c → Rose a c
+rose_again a b c p q = omega (arith, p, q)
+
+pub watch_same : (v : WatchView) → MovedWatch v v
+watch_same v = record { start = refl; moved = inl refl }
+
+pub watch_again : (u v w : WatchView) → MovedWatch u v → MovedWatch v w → MovedWatch u w
+watch_again u v w a b = record { start = b.start ∙ a.start; moved = by_moves a.moved b.moved }
+  where
+    by_moves : (v ≡ u) ⊎ AsksClock u v → (w ≡ v) ⊎ AsksClock v w → (w ≡ u) ⊎ AsksClock u w
+    by_moves (inl same) (inl still) = inl (still ∙ same)
+    by_moves (inr asked) (inl still) = inr (subst (AsksClock u) (sym still) asked)
+    by_moves (inl same) (inr asks) = inr (subst (λ (x : WatchView). AsksClock x w) same asks)
+    by_moves (inr asked) (inr asks) = inr (record { none = asked.none; calls = rose_again u.clock.calls v.clock.calls w.clock.calls asked.calls asks.calls })
+
+pub moved_over : (v : LiveView) (w : WireView) → MovedWire v.wire w → Moved v (with_wire v w)
+moved_over v w m = record { wire = m; line = line_same v.line; watch = watch_same v.watch; seat = moved_seat_same v.seat; charter = refl; reports = refl }
 
 pub moved_same : (v : LiveView) → Moved v v
 moved_same v = record {
   wire = moved_wire_same v.wire;
   line = line_same v.line;
-  watch = refl;
+  watch = watch_same v.watch;
   seat = moved_seat_same v.seat;
   charter = refl;
   reports = refl;
-  more = [];
-  says = says_same v.wire v.wire refl refl refl;
 }
 
 pub moved_line : (v : LiveView) (l : LineView) → MovedLine v.line l → Moved v (with_line v l)
 moved_line v l m = record {
   wire = moved_wire_same v.wire;
   line = m;
-  watch = refl;
+  watch = watch_same v.watch;
   seat = moved_seat_same v.seat;
   charter = refl;
   reports = refl;
-  more = [];
-  says = says_same v.wire v.wire refl refl refl;
 }
 
-pub moved_watch : (v : LiveView) (w : WatchView) → w.start ≡ v.watch.start → Moved v (with_watch v w)
-moved_watch v w start = record {
+pub moved_watch : (v : LiveView) (w : WatchView) → MovedWatch v.watch w → Moved v (with_watch v w)
+moved_watch v w moved = record {
   wire = moved_wire_same v.wire;
   line = line_same v.line;
-  watch = start;
+  watch = moved;
   seat = moved_seat_same v.seat;
   charter = refl;
   reports = refl;
-  more = [];
-  says = says_same v.wire v.wire refl refl refl;
 }
 
 pub moved_again : (u v w : LiveView) → Moved u v → Moved v w → Moved u w
 moved_again u v w a b = record {
   wire = moved_wire_again u.wire v.wire w.wire a.wire b.wire;
   line = line_again u.line v.line w.line a.line b.line;
-  watch = b.watch ∙ a.watch;
+  watch = watch_again u.watch v.watch w.watch a.watch b.watch;
   seat = moved_seat_again u.seat v.seat w.seat a.seat b.seat;
   charter = b.charter ∙ a.charter;
   reports = b.reports ∙ a.reports;
-  more = a.more ++ b.more;
-  says = says_again u.wire v.wire w.wire a.more b.more a.says b.says;
 }
 
 pub moved_flush : (v : LiveView) (w : WireView) (f : Flushed) → Flushes v.wire w f → Moved v (with_wire v w)
-moved_flush v w f h = moved_over v w [] (moved_flushed v.wire w f h) (says_flushed v.wire w f h)
+moved_flush v w f h = moved_over v w (moved_flushed v.wire w f h)
 
 pub moved_by_put : (v : LiveView) (w : WireView) (more : List ℕ) → w.start ≡ v.wire.start → w.link ≡ v.wire.link → w.rest ≡ v.wire.rest ++ more → Moved v (with_wire v w)
-moved_by_put v w more start link rest = moved_over v w more (moved_put v.wire w start link) (says_put v.wire w more start link rest)
+moved_by_put v w more start link rest = moved_over v w (moved_put v.wire w more start link rest)
 
 pub moved_unput : (v : LiveView) (w : WireView) → w.start ≡ v.wire.start → w.link ≡ v.wire.link → w.rest ≡ v.wire.rest → Moved v (with_wire v w)
-moved_unput v w start link rest = moved_over v w [] (moved_put v.wire w start link) (says_same v.wire w start (ap (λ (t : LinkTells). t.sent) link) rest)
+moved_unput v w start link rest = moved_over v w (moved_none_put v.wire w start link rest)
 
 -- what stays
 
-pub stays_wire : (v : LiveView) (w : WireView) → MovedWire v.wire w → Stays v → Stays (with_wire v w)
-stays_wire v w m s = record { seat = s.seat; served = s.served; links = later_since v.wire w s.links m; dials = s.dials }
+pub stays_wire : (v : LiveView) (w : WireView) → w.start ≡ v.wire.start → LinkLater v.wire.link w.link → Stays v → Stays (with_wire v w)
+stays_wire v w start later s = record { seat = s.seat; served = s.served; links = later_since v.wire w s.links start later; dials = s.dials }
 
 pub stays_line : (v : LiveView) (l : LineView) → MovedLine v.line l → Stays v → Stays (with_line v l)
 stays_line v l m s = record {
@@ -186,7 +180,7 @@ told_flushed v w stage f t h = record {
   at = t.at;
   bytes = sent_flushed v.wire w (text_of stage t.parts) f t.bytes h;
   times = t.times;
-  stays = stays_wire v w (moved_flushed v.wire w f h) t.stays;
+  stays = stays_wire v w h.start h.passed.later t.stays;
 }
 
 -- a stage that sends its last bytes, and whose talk is over
@@ -243,8 +237,8 @@ passed_from u v w (Passing s) m p = record {
   parts = p.parts;
   number = p.number;
   some = p.some;
-  before = m.more ++ p.before;
-  says = λ text sent. subst (λ (more : List ℕ). Sent w.wire (text ++ more)) (sym (append_assoc m.more p.before _)) (says_again u.wire v.wire w.wire m.more _ m.says p.says text sent);
+  before = m.wire.more ++ p.before;
+  says = λ text sent. subst (λ (more : List ℕ). Sent w.wire (text ++ more)) (sym (append_assoc m.wire.more p.before _)) (says_again u.wire v.wire w.wire m.wire.more _ m.wire.says p.says text sent);
 }
 passed_from u v w (Finishing s) m p = p
 

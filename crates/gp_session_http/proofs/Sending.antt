@@ -6,6 +6,7 @@ use Rattle.std.proofs.lemmas.List.Elements.{All-nil, All-push}
 use Rattle.gp_plain.specs.declared.http.Response.{Response}
 use Rattle.gp_plain.specs.declared.reply.EndCause.{EndCause}
 use Rattle.gp_plain.specs.declared.reply.EndCause.TheVariants as cause
+use Rattle.gp_outside.specs.Counts.{Rose}
 use Rattle.gp_outside.specs.Dials.{DialTells}
 use Rattle.gp_outside.specs.Links.{LinkTells}
 use Rattle.gp_outbox.specs.declared.outbox.Flushed.TheVariants as flushed
@@ -22,16 +23,16 @@ use Rattle.gp_answer.specs.Framings.{bare, declared, planned}
 use Rattle.gp_answer.specs.Frames.{framed_by, last_chunk}
 use Rattle.gp_answer.proofs.Frames.{frame_law_holds}
 use Rattle.gp_exchange.specs.Views.{ExchangeView}
-use Rattle.gp_exchange.specs.Answers.{rank, head_of, IsOverBy, Gives, Waits}
+use Rattle.gp_exchange.specs.Answers.{rank, head_of, IsOverBy, FaultRises, Gives, Waits}
 use Rattle.gp_exchange.specs.declared.answer.Progress.TheVariants.{NotReady}
 use Rattle.gp_exchange.specs.declared.answer.Last.{Last as ExchangeLast}
 use Rattle.gp_exchange.specs.declared.place.Place.{Place}
 use Rattle.gp_exchange.specs.declared.place.Place.TheVariants as place
 use Rattle.gp_exchange.specs.declared.answer.ExchangeFault.{ExchangeFault}
 use Rattle.gp_exchange.specs.declared.answer.Last.TheVariants as last
-use Rattle.gp_session.specs.Wires.{WireView, Sent, Flushes}
+use Rattle.gp_session.specs.Wires.{SaysMore, WireView, Sent, Flushes}
 use Rattle.gp_session.specs.Lines.{Aim, LineView, MovedLine, LineRow, Last, speaking, hung}
-use Rattle.gp_session.proofs.Moving.{rose_since}
+use Rattle.gp_session.proofs.Moving.{rose_from, rose_since, says_put, says_same, says_again}
 use Rattle.gp_session_http.specs.declared.asked.Asked.{Asked}
 use Rattle.gp_session_http.specs.declared.asking.Asking.{Asking as AskingStage}
 use Rattle.gp_session_http.specs.declared.passed.Passed.{Passed}
@@ -42,12 +43,12 @@ use Rattle.gp_session_http.specs.declared.stage.Ended.{Ended}
 use Rattle.gp_session_http.specs.declared.stage.Next.TheVariants.{Go, Wait, End}
 use Rattle.gp_session_http.specs.Asking.{IsPassed}
 use Rattle.gp_session_http.specs.Passing.{code_by, framing_by, head_by, in_chunks, is_bare_by, asked_of, origin_head, has_no_body, IsPassedOn, passed_text, ArePartsOf}
-use Rattle.gp_session_http.specs.Views.{LiveView, Moved, SaysMore}
-use Rattle.gp_session_http.specs.Trace.{IsPassing, HasEndedBy, IsPassedBy, Told}
+use Rattle.gp_session_http.specs.Views.{LiveView, Moved}
+use Rattle.gp_session_http.specs.Trace.{IsPassing, IsCutOff, HasEndedBy, IsPassedBy, Told}
 use Rattle.gp_session_http.specs.declared.passing.Step.{Step}
 use Rattle.gp_session_http.specs.declared.passing.Step.TheVariants as step
 use Rattle.gp_session_http.specs.Moves.{waits, passed, StepsTo, PassedOn, Leads, HasAsked, said, HasHeadOf, IsBegunAt, HasGiven, HasGivenAll, EndSays, end_by}
-use Rattle.gp_session_http.proofs.Rows.{with_wire, with_line, moved_line, moved_again, moved_by_put, moved_unput, moved_flush, no_parts, says_put, says_same, says_again, told_flushed, leads_from}
+use Rattle.gp_session_http.proofs.Rows.{with_wire, with_line, moved_line, moved_again, moved_by_put, moved_unput, moved_flush, no_parts, told_flushed, leads_from}
 use Rattle.gp_session_http.proofs.Talking.{polled, put_on, put_none, over_hung, over_rank}
 
 -- how the text grows
@@ -94,13 +95,13 @@ passing_told l s parts given cut h at = record { given = given; parts = parts; c
 
 -- and of one whose response has ended, with the same exchange
 pub finishing_told : (l : LiveView) (p : Passed) (x : ExchangeView) (s : FinishingStage) (c : EndCause) (parts : List (List ℕ)) (given : List ℕ) → ArePartsOf parts given → s.passed ≡ p → s.exchange.value ≡ x → s.cause ≡ c
-    → HasAsked l (asked_of p) x (hung (said x given)) (passed_text p parts (Some c)) → IsPassedBy p x c parts → Told l (Finishing s)
+    → HasAsked l (asked_of p) x (hung (said x given)) (passed_text p parts (Some c)) → IsPassedBy l.line p x c parts → Told l (Finishing s)
 finishing_told l p x s c parts given cut same exchange is h at =
     let h1 = subst (λ (q : Passed). HasAsked l (asked_of q) x (hung (said x given)) (passed_text q parts (Some c))) (sym same) h in
     let h2 = subst (λ (y : ExchangeView). HasAsked l (asked_of s.passed) y (hung (said y given)) (passed_text s.passed parts (Some c))) (sym exchange) h1 in
     let h3 = subst (λ (d : EndCause). HasAsked l (asked_of s.passed) s.exchange.value (hung (said s.exchange.value given)) (passed_text s.passed parts (Some d))) (sym is) h2 in
-    let a1 = subst (λ (q : Passed). IsPassedBy q x c parts) (sym same) at in
-    let a2 = subst (λ (y : ExchangeView). IsPassedBy s.passed y c parts) (sym exchange) a1 in
+    let a1 = subst (λ (q : Passed). IsPassedBy l.line q x c parts) (sym same) at in
+    let a2 = subst (λ (y : ExchangeView). IsPassedBy l.line s.passed y c parts) (sym exchange) a1 in
     record {
       given = given;
       parts = parts;
@@ -108,7 +109,7 @@ finishing_told l p x s c parts given cut same exchange is h at =
       request = h3.request;
       talks = h3.talks;
       aim = h3.aim;
-      at = subst (λ (d : EndCause). IsPassedBy s.passed s.exchange.value d parts) (sym is) a2;
+      at = subst (λ (d : EndCause). IsPassedBy l.line s.passed s.exchange.value d parts) (sym is) a2;
       bytes = h3.bytes;
       times = h3.times;
       stays = h3.stays;
@@ -255,14 +256,20 @@ module _ (v : LiveView) (l : LineView) (s : PassingStage) (told : Told v (Passin
     body = told.at.body;
   }
 
-  pub cut_short : (f : ExchangeFault) → IsOverBy (last.Fault f) y.place → ((aims : List Aim) → LineRow v.line aims (speaking (said s.exchange told.given)) → LineRow l aims (speaking (said y (told.given ++ []))))
+  cut_by : (f : ExchangeFault) → IsOverBy (last.Fault f) y.place → FaultRises f s.exchange.place v.line.dial l.dial → IsCutOff l y
+  cut_by f over rises = record { fault = f; over = over; rises = λ is. since (subst (λ (x : ExchangeFault). FaultRises x s.exchange.place v.line.dial l.dial) is rises (let four = told.at.reading in omega (arith, four))) }
+    where
+      since : Rose v.line.dial.faults l.dial.faults → Rose l.start.faults l.dial.faults
+      since rose = subst (λ (t : DialTells). Rose t.faults l.dial.faults) (sym moved.start) (rose_from v.line.start.faults v.line.dial.faults l.dial.faults told.stays.dials.faults rose)
+
+  pub cut_short : (f : ExchangeFault) → IsOverBy (last.Fault f) y.place → FaultRises f s.exchange.place v.line.dial l.dial → ((aims : List Aim) → LineRow v.line aims (speaking (said s.exchange told.given)) → LineRow l aims (speaking (said y (told.given ++ []))))
       → (t : FinishingStage) → t.passed ≡ s.passed → t.exchange.value ≡ y → t.cause ≡ cause.Unrecovered → Leads v (with_line v l) 2 (Go (Finishing t))
-  cut_short f over row t whose exchange is = record {
+  cut_short f over rises row t whose exchange is = record {
     moved = moved_line v l moved;
     to = (
       finishing_told (with_line v l) s.passed y t cause.Unrecovered told.parts told.given told.cut whose exchange is
           (subst (HasAsked (with_line v l) (asked_of s.passed) y (hung (said y told.given))) (cut_text s.passed told.parts) (over_rows (last.Fault f) over row))
-          (record { head = head ∙ told.at.head; on = told.at.on; ended = (f, over); bare = λ b. (let no : true ≡ false = sym b ∙ told.at.body in let never : ⊥ = cc in absurd never) }),
+          (record { head = head ∙ told.at.head; on = told.at.on; ended = cut_by f over rises; bare = λ b. (let no : true ≡ false = sym b ∙ told.at.body in let never : ⊥ = cc in absurd never) }),
       omega arith,
     );
   }
@@ -327,7 +334,7 @@ module _ (v : LiveView) (w : WireView) (s : PassingStage) (h : HasGivenAll v s) 
 pub says_end : (v : LiveView) (w : WireView) (s : FinishingStage) → Told v (Finishing s) → w.rest ≡ [] → (e : SessionEnd) → e ≡ end_by s.passed.code s.cause → EndSays e (with_wire v w) (Finishing s)
 says_end v w s told empty e is = subst (λ (x : SessionEnd). EndSays x (with_wire v w) (Finishing s)) (sym is) (by_cause s.cause refl told.at.ended)
   where
-    by_cause : (c : EndCause) → s.cause ≡ c → HasEndedBy c s.passed s.exchange.value → EndSays (end_by s.passed.code c) (with_wire v w) (Finishing s)
+    by_cause : (c : EndCause) → s.cause ≡ c → HasEndedBy c v.line s.passed s.exchange.value → EndSays (end_by s.passed.code c) (with_wire v w) (Finishing s)
     by_cause cause.Closed same ended = (empty, (refl, same))
     by_cause cause.Unrecovered same ended = (empty, (sym same, same))
     by_cause cause.Detached same ended = absurd ended

@@ -26,7 +26,7 @@ use Rattle.gp_session.specs.Wires.{WireView, Flushes}
 use Rattle.gp_session.specs.Lines.{Aim, LineView, MovedLine, LineRow, Last, idle, speaking, hung}
 use Rattle.gp_session.specs.Watches.{WatchView, WatchRow, Uses, Asks as AsksClock}
 use Rattle.gp_session.proofs.Lining.{begins_talk, is_hung}
-use Rattle.gp_session.proofs.Moving.{request_same, sent_same, sent_put, sent_flushed, moved_put, moved_flushed}
+use Rattle.gp_session.proofs.Moving.{request_same, sent_same, sent_put, sent_flushed, later_put}
 use Rattle.gp_session_http.specs.declared.asked.Asked.{Asked}
 use Rattle.gp_session_http.specs.declared.asking.Asking.{Asking as AskingStage}
 use Rattle.gp_session_http.specs.declared.failing.Failing.{Failing as FailingStage}
@@ -88,7 +88,7 @@ first_past l c s reports asked last none item h row = record {
 
 module _ (v : LiveView) (u : WatchView) (w : Whole) (address : Address) (at : IsServedAt v w address) (now : ℕ) (uses : Uses v.watch u now) where
   pub watched : Moved v (with_watch v u)
-  watched = moved_watch v u uses.moved.start
+  watched = moved_watch v u uses.moved
 
   -- the origin is asked
   pub begins : (WatchRow v.watch → WatchRow u) → (s : AskingStage) → s.asked.request ≡ w → s.asked.address ≡ address → s.asked.moment ≡ now → s.asked.repeats ≡ 0 → s.asked.last ≡ None → BeginsFor v.charter.signer s.asked s.exchange → Leads v (with_watch v u) 4 (Go (Asking s))
@@ -168,7 +168,7 @@ module _ (v : LiveView) (w : WireView) (start : w.start ≡ v.wire.start) (link 
     aim = h.aim;
     bytes = sent_put v.wire w text more h.bytes start link rest;
     times = h.times;
-    stays = stays_wire v w (moved_put v.wire w start link) h.stays;
+    stays = stays_wire v w start (later_put v.wire w link) h.stays;
   }
 
   pub put_none : w.rest ≡ v.wire.rest → HasAsked (with_wire v w) asked x a text
@@ -178,7 +178,7 @@ module _ (v : LiveView) (w : WireView) (start : w.start ≡ v.wire.start) (link 
     aim = h.aim;
     bytes = sent_same v.wire w text h.bytes start (ap (λ (t : LinkTells). t.sent) link) rest;
     times = h.times;
-    stays = stays_wire v w (moved_put v.wire w start link) h.stays;
+    stays = stays_wire v w start (later_put v.wire w link) h.stays;
   }
 
 -- an exchange that is over has hung up
@@ -327,7 +327,7 @@ flushed_on v w f h asked x a text r = record {
   aim = r.aim;
   bytes = sent_flushed v.wire w text f r.bytes h;
   times = r.times;
-  stays = stays_wire v w (moved_flushed v.wire w f h) r.stays;
+  stays = stays_wire v w h.start h.passed.later r.stays;
 }
 
 pub put_last : (body tail last : List ℕ) → body ≡ [] → tail ≡ last → [] ++ (body ++ tail) ≡ last

@@ -161,6 +161,7 @@ pub record FailsByBytes (method : List ℕ) (x : ExchangeView) : Type 0 where
 -- the content that was gathered is too long
 pub record FailsByLength (method : List ℕ) (x : ExchangeView) (content : List ℕ) : Type 0 where
   pub head : Response
+  pub reading : rank x.place ≡ 4
   pub has : HasGatheredHead method x head
   pub long : most_gathered head < length content
 
@@ -176,6 +177,7 @@ pub record FailsByOpening (method : List ℕ) (x : ExchangeView) (content : List
 -- the head that was given is refused
 pub record FailsByHead (method : List ℕ) (x : ExchangeView) : Type 0 where
   pub head : Response
+  pub reading : rank x.place ≡ 4
   pub given : head_of x.place ≡ Some head
   pub get : is_head method ≡ false
   pub refused : IsInstructRefused head

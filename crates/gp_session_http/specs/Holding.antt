@@ -23,7 +23,9 @@ use Rattle.gp_session_hold.specs.Rows.{KeptView, IsKept, IsOver, IsReleased, non
 use Rattle.gp_session_hold.specs.Streams.{StreamView, Streams, Finished, Stopped}
 use Rattle.gp_session_recover.specs.Polls.{TalkWaitedAt}
 use Rattle.gp_session_recover.specs.Quests.{Quest}
+use Rattle.gp_session_recover.specs.Polls.{RecoversOn}
 use Rattle.gp_session_recover.specs.Rows.{Closed, RecoveringView, Recovers, sides}
+use Rattle.gp_session_recover.specs.declared.talk.Talk.TheVariants.{None as NoTalk}
 use Rattle.gp_session_wait.specs.Waits.{most_repeats}
 use Rattle.gp_session_http.specs.declared.asking.Asking.{Asking as AskingStage}
 use Rattle.gp_session_http.specs.declared.attaching.Attaching.{Attaching as AttachingStage}
@@ -34,6 +36,7 @@ use Rattle.gp_session_http.specs.declared.leaving.Leaving.{Leaving as LeavingSta
 use Rattle.gp_session_http.specs.declared.leaving.Parting.{Parting}
 use Rattle.gp_session_http.specs.declared.leaving.Parting.TheVariants.{Gone, Wanting}
 use Rattle.gp_session_http.specs.declared.grant.Grant.{Grant}
+use Rattle.gp_session_http.specs.declared.waiting.Waiting.{Waiting as WaitingStage}
 use Rattle.gp_session_http.specs.declared.held.Held.{Held}
 use Rattle.gp_session_http.specs.declared.held.Held.TheVariants.{Attaching, Declining, Streaming, Closing, Leaving, Beginning, Denying, Waiting, Answering, Departing}
 use Rattle.gp_session_http.specs.declared.held.HeldNext.{HeldNext}
@@ -273,35 +276,111 @@ pub record HeldFinishes (l : LiveView) (ended : Ended) : Type 0 where
   pub released : ended.end ≢ Worn → All IsReleased (holds_of l.seat)
   pub by : StreamFinishes l ended ⊎ PollFinishes l ended
 
--- a hold that is attached isn't reported yet
-abbrev pub GoesReported : LiveView → LiveView → Held → Type 0
-GoesReported v w (Attaching s) = ⊤
-GoesReported v w (Declining s) = ⊤
-GoesReported v w (Streaming s) = ⊤
-GoesReported v w (Closing s) = ⊤
-GoesReported v w (Leaving s) = ⊤
-GoesReported v w (Beginning s) = ⊥
-GoesReported v w (Denying s) = ⊤
-GoesReported v w (Waiting s) = w.reports.items ≡ v.reports.items
-GoesReported v w (Answering s) = ⊤
-GoesReported v w (Departing s) = ⊤
+-- a stream that has asked for nothing yet
+pub record IsFreshStream (l : LiveView) (s : StreamingStage) : Type 0 where
+  pub untalked : s.recovering.talk ≡ NoTalk
+  pub source : Option AgainView
+  pub aims : List Aim
+  pub row : Recovers l.charter.signer source aims [] (sides s.recovering l.wire l.line l.seat)
 
--- the origin is asked again, at most 8 times, and the hold that has ended is reported
+-- a stream whose hold is attached has asked for nothing yet; the deadline of a long poll whose hold is attached is by the poll's moment, and
+-- the hold isn't reported yet
+abbrev pub GoesTo : LiveView → LiveView → Held → Type 0
+GoesTo v w (Attaching s) = ⊤
+GoesTo v w (Declining s) = ⊤
+GoesTo v w (Streaming s) = IsFreshStream w s
+GoesTo v w (Closing s) = ⊤
+GoesTo v w (Leaving s) = ⊤
+GoesTo v w (Beginning s) = ⊥
+GoesTo v w (Denying s) = ⊤
+GoesTo v w (Waiting s) = (w.reports.items ≡ v.reports.items) × (w.watch.moment ≡ Some s.since.value)
+GoesTo v w (Answering s) = ⊤
+GoesTo v w (Departing s) = ⊤
+
+-- the origin is asked again, at most 8 times, with a token of the poll's moment, and the hold that has ended is reported
 pub record AsksAgain (v w : LiveView) (s : AskingStage) : Type 0 where
   pub told : Told w (Asking s)
+  pub timed : w.watch.moment ≡ Some s.asked.moment
   pub count : length w.reports.items ≡ length v.reports.items + 1
   pub few : length v.reports.items < most_repeats
 
 -- where a move leads
 abbrev pub HeldLeadsTo : LiveView → LiveView → ℕ → HeldNext → Type 0
-HeldLeadsTo v w n (Go stage) = HeldTold w stage × (held_rank stage < n) × GoesReported v w stage
-HeldLeadsTo v w n (Wait stage) = HeldTold w stage × HeldPends v w stage
+HeldLeadsTo v w n (Go stage) = HeldTold w stage × (held_rank stage < n) × GoesTo v w stage
+HeldLeadsTo v w n (Wait stage) = HeldTold w stage × HeldPends v w stage × (held_rank stage ≡ n)
 HeldLeadsTo v w n (Again stage) = AsksAgain v w stage × (3 < n)
 HeldLeadsTo v w n (End ended) = HeldFinishes w ended
 
 pub record HeldLeads (v w : LiveView) (n : ℕ) (next : HeldNext) : Type 0 where
   pub moved : Goes v w
   pub to : HeldLeadsTo v w n next
+
+-- a move that the poll doesn't wait behind
+abbrev pub IsOnward : HeldNext → Type 0
+IsOnward (Go next) = ⊤
+IsOnward (Wait next) = ⊥
+IsOnward (Again next) = ⊤
+IsOnward (End ended) = ⊤
+
+-- a poll of a stream begins talks by its own moment alone
+pub record StreamTimed (v w : LiveView) (s next : StreamingStage) : Type 0 where
+  pub now : ℕ
+  pub moment : w.watch.moment ≡ Some now
+  pub recovers : (source : Option AgainView) (aims : List Aim) (qs : List Quest) → Recovers v.charter.signer source aims qs (sides s.recovering v.wire v.line v.seat)
+      → RecoversOn v.charter.signer source aims qs now (sides s.recovering v.wire v.line v.seat) (sides next.recovering w.wire w.line w.seat)
+
+-- a long poll that waits on is the same, and was attached when it was
+pub record PollTimed (s next : WaitingStage) : Type 0 where
+  pub number : next.wait.hold.number ≡ s.wait.hold.number
+  pub since : next.since ≡ s.since
+
+abbrev pub StreamWaits : LiveView → LiveView → StreamingStage → Held → Type 0
+StreamWaits v w s (Attaching t) = ⊤
+StreamWaits v w s (Declining t) = ⊤
+StreamWaits v w s (Streaming t) = StreamTimed v w s t
+StreamWaits v w s (Closing t) = ⊤
+StreamWaits v w s (Leaving t) = ⊤
+StreamWaits v w s (Beginning t) = ⊤
+StreamWaits v w s (Denying t) = ⊤
+StreamWaits v w s (Waiting t) = ⊤
+StreamWaits v w s (Answering t) = ⊤
+StreamWaits v w s (Departing t) = ⊤
+
+abbrev pub StreamTimes : LiveView → LiveView → StreamingStage → HeldNext → Type 0
+StreamTimes v w s (Go next) = ⊤
+StreamTimes v w s (Wait next) = StreamWaits v w s next
+StreamTimes v w s (Again next) = ⊤
+StreamTimes v w s (End ended) = ⊤
+
+abbrev pub PollWaitsOn : WaitingStage → Held → Type 0
+PollWaitsOn s (Attaching t) = ⊤
+PollWaitsOn s (Declining t) = ⊤
+PollWaitsOn s (Streaming t) = ⊤
+PollWaitsOn s (Closing t) = ⊤
+PollWaitsOn s (Leaving t) = ⊤
+PollWaitsOn s (Beginning t) = ⊤
+PollWaitsOn s (Denying t) = ⊤
+PollWaitsOn s (Waiting t) = PollTimed s t
+PollWaitsOn s (Answering t) = ⊤
+PollWaitsOn s (Departing t) = ⊤
+
+abbrev pub PollTimes : WaitingStage → HeldNext → Type 0
+PollTimes s (Go next) = ⊤
+PollTimes s (Wait next) = PollWaitsOn s next
+PollTimes s (Again next) = ⊤
+PollTimes s (End ended) = ⊤
+
+abbrev pub HeldTimes : LiveView → LiveView → Held → HeldNext → Type 0
+HeldTimes v w (Attaching s) next = ⊤
+HeldTimes v w (Declining s) next = ⊤
+HeldTimes v w (Streaming s) next = StreamTimes v w s next
+HeldTimes v w (Closing s) next = ⊤
+HeldTimes v w (Leaving s) next = ⊤
+HeldTimes v w (Beginning s) next = ⊤
+HeldTimes v w (Denying s) next = ⊤
+HeldTimes v w (Waiting s) next = PollTimes s next
+HeldTimes v w (Answering s) next = ⊤
+HeldTimes v w (Departing s) next = ⊤
 
 -- the hold was attached, and nothing was said or asked yet
 pub record IsAttachedAt (l : LiveView) (g : Grant) (head : List ℕ) (again : Option AgainView) (hold : KeptView) : Type 0 where

@@ -13,4 +13,5 @@ pub mod LongPolls
 pub mod Holding
 pub mod Headlines
 pub mod Moves
+pub mod Completeness
 pub mod Polls

@@ -147,25 +147,6 @@ pub data PollEnds (l : LiveView) (turns : List Turn) (p : Poll) : SessionEnd →
   departed : (now : ℕ) (hold : KeptView) (parting : Parting) (share : Share) → HasAttached l turns (PollsFor p now) → IsLastHold l hold → DetachedRow false l.seat hold.number → IsOver l.seat hold None share → MayPoll p share.spec → Sent l.wire [] → PartsBy parting l
       → PollEnds l turns p (end_of parting) why.Nothing
 
--- the moment at which a hold is attached is that of the poll
-abbrev pub IsHeldAt : WatchView → Held → Type 0
-IsHeldAt w (Attaching s) = ⊤
-IsHeldAt w (Declining s) = ⊤
-IsHeldAt w (Streaming s) = ⊤
-IsHeldAt w (Closing s) = ⊤
-IsHeldAt w (Leaving s) = ⊤
-IsHeldAt w (Beginning s) = ⊤
-IsHeldAt w (Denying s) = ⊤
-IsHeldAt w (Waiting s) = w.moment ≡ Some s.since.value
-IsHeldAt w (Answering s) = ⊤
-IsHeldAt w (Departing s) = ⊤
-
-abbrev pub IsTimed : WatchView → HeldNext → Type 0
-IsTimed w (Go stage) = IsHeldAt w stage
-IsTimed w (Wait stage) = ⊤
-IsTimed w (Again stage) = ⊤
-IsTimed w (End ended) = ⊤
-
 -- the moves
 
 -- no hold was made, and nothing was said yet

@@ -18,10 +18,12 @@ use Rattle.gp_intake.specs.declared.body.Whole.{Whole}
 use Rattle.gp_intake.specs.Requests.{HeadedView, IsHeaded}
 use Rattle.gp_intake.specs.Bodies.{IsOpen}
 use Rattle.gp_plain.specs.declared.http.Address.{Address}
-use Rattle.gp_session.specs.Wires.{WireView, RequestRow, BytesRow, Shape, exactly, at_most}
+use Rattle.gp_session.specs.Wires.{WireView, SaysMore, RequestRow, BytesRow, Shape, exactly, at_most}
 use Rattle.gp_session.specs.Lines.{Said, Last, idle, speaking, hung}
 use Rattle.gp_session.specs.Causes.{ReadWaited, WriteWaited, HasFailed, HasEnded}
 use Rattle.gp_session_http.specs.declared.cause.Cause.{Cause}
+use Rattle.gp_session_http.specs.declared.held.Held.{Held}
+use Rattle.gp_session_http.specs.declared.held.Held.TheVariants.{Attaching, Declining, Streaming, Closing, Leaving, Beginning, Denying, Waiting, Answering, Departing}
 use Rattle.gp_session_http.specs.declared.stage.Stage.{Stage}
 use Rattle.gp_session_http.specs.declared.stage.Stage.TheVariants.{ReadingHead, ReadingBody, Refusing, Asking, Gathering, Giving, Failing, Passing, Finishing}
 use Rattle.gp_session_http.specs.declared.stage.Ended.{Ended}
@@ -41,7 +43,7 @@ use Rattle.gp_plain.specs.declared.http.Signer.{Signer}
 use Rattle.gp_session_http.specs.Asking.{IsAskedFor, BeginsFor, HasGatheredHead, FailsBy}
 use Rattle.gp_session_http.specs.Routing.{Charter, IsRefusedFor, IsServed, refusal_of, why_of}
 use Rattle.gp_session_http.specs.Passing.{ArePartsOf, asked_of, origin_head, has_no_body, IsPassedOn, passed_text, head_by}
-use Rattle.gp_session_http.specs.Views.{LiveView, Moved, SaysMore}
+use Rattle.gp_session_http.specs.Views.{LiveView, Moved}
 use Rattle.gp_session_http.specs.Holding.{HeldTold}
 use Rattle.gp_session_http.specs.Turns.{Fresh, Past, PastOf}
 use Rattle.gp_session_http.specs.Trace.{Serves, asked_in, IsPassing, IsGathering, Asks, last_of, HasAim, IsAt, text_of, moment_of, IsUnasked, TimesRow, Stays, Told}
@@ -221,7 +223,7 @@ IsCutBy (Finishing s) cause = (cause ≡ s.cause) × (s.cause ≡ cause_of_end.U
 abbrev pub EndSays : SessionEnd → LiveView → Stage → Type 0
 EndSays (WasSent code) l stage = (l.wire.rest ≡ []) × HasCode stage code
 EndSays (Cut cause) l stage = (l.wire.rest ≡ []) × IsCutBy stage cause
-EndSays ClientGone l stage = HasFailed l.wire ⊎ (HasEnded l.wire × IsReading stage)
+EndSays ClientGone l stage = HasFailed l.wire ⊎ (HasEnded l.wire × IsReading stage × IsUnread stage)
 EndSays Worn l stage = ⊥
 EndSays NoMemory l stage = ⊤
 
@@ -254,11 +256,24 @@ end_by code cause_of_end.Answered = Cut cause_of_end.Answered
 end_by code cause_of_end.Retry = Cut cause_of_end.Retry
 end_by code cause_of_end.TimedOut = Cut cause_of_end.TimedOut
 
+-- the hold that an answer asks for isn't attached yet
+abbrev pub IsUnbegun : Held → Type 0
+IsUnbegun (Attaching s) = ⊤
+IsUnbegun (Declining s) = ⊥
+IsUnbegun (Streaming s) = ⊥
+IsUnbegun (Closing s) = ⊥
+IsUnbegun (Leaving s) = ⊥
+IsUnbegun (Beginning s) = ⊤
+IsUnbegun (Denying s) = ⊥
+IsUnbegun (Waiting s) = ⊥
+IsUnbegun (Answering s) = ⊥
+IsUnbegun (Departing s) = ⊥
+
 -- where a move leads
 abbrev pub LeadsTo : LiveView → LiveView → ℕ → Next → Type 0
 LeadsTo v w n (Go stage) = Told w stage × (rank stage < n)
 LeadsTo v w n (Wait stage) = Told w stage × Pends v w stage
-LeadsTo v w n (Hold stage) = HeldTold w stage
+LeadsTo v w n (Hold stage) = HeldTold w stage × IsUnbegun stage
 LeadsTo v w n (End ended) = Finishes w ended
 
 pub record Leads (v w : LiveView) (n : ℕ) (next : Next) : Type 0 where

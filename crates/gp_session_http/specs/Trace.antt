@@ -13,6 +13,7 @@ use Rattle.gp_hub.specs.Passes.{HubView}
 use Rattle.gp_exchange.specs.Views.{ExchangeView}
 use Rattle.gp_exchange.specs.Answers.{rank, head_of, IsOverBy}
 use Rattle.gp_exchange.specs.declared.answer.ExchangeFault.{ExchangeFault}
+use Rattle.gp_exchange.specs.declared.answer.ExchangeFault.TheVariants.{Dial}
 use Rattle.gp_exchange.specs.declared.answer.Last.TheVariants as last
 use Rattle.gp_intake.specs.Heads.{IsBegun}
 use Rattle.gp_intake.specs.Requests.{IsHeaded}
@@ -111,21 +112,27 @@ pub record IsPassing (p : Passed) (x : ExchangeView) : Type 0 where
   pub on : IsPassedOn p
   pub body : has_no_body p ≡ false
 
--- such a response has ended: whole, or, where no body is sent, with its head; or it was cut by a fault of the talk
-abbrev pub HasEndedBy : EndCause → Passed → ExchangeView → Type 0
-HasEndedBy Closed p x = IsOverBy last.End x.place ⊎ (has_no_body p ≡ true)
-HasEndedBy Unrecovered p x = (fault : ExchangeFault) × IsOverBy (last.Fault fault) x.place
-HasEndedBy Detached p x = ⊥
-HasEndedBy Gap p x = ⊥
-HasEndedBy Overflow p x = ⊥
-HasEndedBy Answered p x = ⊥
-HasEndedBy Retry p x = ⊥
-HasEndedBy TimedOut p x = ⊥
+-- a fault of the talk; the dialer's comes only where its faults rose
+pub record IsCutOff (l : LineView) (x : ExchangeView) : Type 0 where
+  pub fault : ExchangeFault
+  pub over : IsOverBy (last.Fault fault) x.place
+  pub rises : fault ≡ Dial → Rose l.start.faults l.dial.faults
 
-pub record IsPassedBy (p : Passed) (x : ExchangeView) (cause : EndCause) (parts : List (List ℕ)) : Type 0 where
+-- such a response has ended: whole, or, where no body is sent, with its head; or it was cut by a fault of the talk
+abbrev pub HasEndedBy : EndCause → LineView → Passed → ExchangeView → Type 0
+HasEndedBy Closed l p x = IsOverBy last.End x.place ⊎ (has_no_body p ≡ true)
+HasEndedBy Unrecovered l p x = IsCutOff l x
+HasEndedBy Detached l p x = ⊥
+HasEndedBy Gap l p x = ⊥
+HasEndedBy Overflow l p x = ⊥
+HasEndedBy Answered l p x = ⊥
+HasEndedBy Retry l p x = ⊥
+HasEndedBy TimedOut l p x = ⊥
+
+pub record IsPassedBy (l : LineView) (p : Passed) (x : ExchangeView) (cause : EndCause) (parts : List (List ℕ)) : Type 0 where
   pub head : head_of x.place ≡ Some (origin_head p)
   pub on : IsPassedOn p
-  pub ended : HasEndedBy cause p x
+  pub ended : HasEndedBy cause l p x
   pub bare : has_no_body p ≡ true → parts ≡ []
 
 -- the body of an answer is gathered, which isn't too long so far
@@ -154,7 +161,7 @@ IsAt l (Gathering s) given parts = IsGathering s given
 IsAt l (Giving s) given parts = IsGiving s given
 IsAt l (Failing s) given parts = FailsBy l s.asked.value.request.head.method s.exchange.value given s.why
 IsAt l (Passing s) given parts = IsPassing s.passed s.exchange
-IsAt l (Finishing s) given parts = IsPassedBy s.passed s.exchange.value s.cause parts
+IsAt l (Finishing s) given parts = IsPassedBy l s.passed s.exchange.value s.cause parts
 
 -- Row: the bytes. What was sent, followed by what waits, where the parts of a body were these.
 abbrev pub text_of : Stage → List (List ℕ) → List ℕ

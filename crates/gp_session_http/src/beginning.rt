@@ -1,6 +1,6 @@
 //! A session that attaches the hold of a long poll.
 ghost use Rattle.gp_session_http.specs.Holding.{HeldLeads, HeldTold};
-ghost use Rattle.gp_session_http.specs.LongPolls.{IsDeniedAt, IsTimed};
+ghost use Rattle.gp_session_http.specs.LongPolls.{IsDeniedAt};
 ghost use Rattle.gp_session_http.specs.declared.held.Held.TheVariants as held;
 
 use crate::asked::Asked;
@@ -33,7 +33,6 @@ impl Beginning {
     ) -> HeldNext
         requires told { HeldTold live.old (held.Beginning self) }
         ensures leads { HeldLeads live.old live.new 5 result }
-        ensures timed { IsTimed live.new.watch result }
     {
         let now = live.watch.moment();
         let Beginning {
@@ -70,7 +69,6 @@ impl Beginning {
 fn deny<'h, L: Link, D: Dial, C: Clock>(live: &mut Live<'h, L, D, C>, poll: Poll) -> HeldNext
     requires told { IsDeniedAt live.old poll }
     ensures leads { HeldLeads live.old live.new 5 result }
-    ensures timed { IsTimed live.new.watch result }
 {
     let refusal = Refusal::Unavailable;
     match live

@@ -1,5 +1,5 @@
 //! The stages of a session whose origin's answer asks for a hold.
-ghost use Rattle.gp_session_http.specs.Holding.{HeldLeads, HeldTold, held_rank};
+ghost use Rattle.gp_session_http.specs.Holding.{HeldLeads, HeldTimes, HeldTold, held_rank};
 
 use crate::answering::Answering;
 use crate::asking::Asking;
@@ -74,6 +74,7 @@ impl Held {
     ) -> HeldNext
         requires told { HeldTold live.old self }
         ensures leads { HeldLeads live.old live.new (held_rank self) result }
+        ensures timed { HeldTimes live.old live.new self result }
     {
         match self {
             Held::Attaching(stage) => stage.advance(live),

@@ -2,15 +2,19 @@
 ghost use Rattle.std.specs.Prelude.{◌≡◌, MatchResult, option_map};
 ghost use Rattle.gp_hub.specs.Sessions.{HasPolled};
 ghost use Rattle.gp_session.specs.Seats.{IsFresh};
-ghost use Rattle.gp_session_http.specs.Polls.{Ends, HasEnded, IsNew, Leaves, MayGive, PhaseFinishes, PhaseTold, PollsTo, Waits, begun, new_session};
+ghost use Rattle.gp_session_http.specs.Completeness.{Completes};
+ghost use Rattle.gp_session_http.specs.Polls.{Ends, HasEnded, IsNew, Leaves, MayGive, PhaseFinishes, PhaseTold, PollsTo, Waits, at_poll, begun, polled, new_session};
 
 use crate::finish::Finish;
 use crate::held::{Held, HeldNext};
 use crate::live::Live;
 use crate::reading_head::ReadingHead;
 use crate::stage::{Ended, Next, Stage};
+use gp_asking::failing_law;
 use gp_hub::{Hub, HubPass, Outcome, Polled, Session};
 use gp_intake::HeadIntake;
+use gp_one_answer::{answer_law, page_law};
+use gp_one_request::request_law;
 use gp_outside::{Clock, Dial, Link};
 use gp_plain::{Body, HoldReports, Signer};
 use gp_routes::Routes;
@@ -36,6 +40,7 @@ pub(crate) struct Open<'h, L: Link, D: Dial, C: Clock> {
 }
 
 impl<'h, L: Link, D: Dial, C: Clock> Model for Open<'h, L, D, C> {
+    ghost use Rattle.gp_session_http.specs.Completeness.{Completes};
     ghost use Rattle.gp_session_http.specs.Polls.{OpenView, PhaseTold};
 
     ghost Value = { OpenView };
@@ -54,6 +59,7 @@ pub(crate) struct Devices<L: Link, D: Dial, C: Clock> {
 }
 
 impl<L: Link, D: Dial, C: Clock> Model for Devices<L, D, C> {
+    ghost use Rattle.gp_session_http.specs.Completeness.{Completes};
     ghost use Rattle.gp_session_http.specs.Polls.{DevicesView};
 
     ghost Value = { DevicesView };
@@ -82,6 +88,7 @@ pub struct HttpSession<'h, L: Link, D: Dial, C: Clock> {
 
 impl<'h, L: Link, D: Dial, C: Clock> Model for HttpSession<'h, L, D, C> {
     ghost use Rattle.std.specs.Prelude.{◌≡◌, ◌⊎◌, None};
+    ghost use Rattle.gp_session_http.specs.Completeness.{Completes};
     ghost use Rattle.gp_session_http.specs.Polls.{SessionView};
 
     ghost Value = { SessionView };
@@ -94,11 +101,25 @@ impl<'h, L: Link, D: Dial, C: Clock> Model for HttpSession<'h, L, D, C> {
 /// What a session leaves: its outcome, and its devices.
 type Left<L, D, C> = (Outcome, Devices<L, D, C>);
 
+/// A session that ends so ends well, or something kept it from that.
+fn completes<'h, L: Link, D: Dial, C: Clock>(live: &Live<'h, L, D, C>, ended: &Ended)
+    requires ends { PhaseFinishes live.now ended.now }
+    ensures completes { Completes live.now ended.now }
+{
+    let _live = live;
+    let _ended = ended;
+    request_law();
+    answer_law();
+    page_law();
+    failing_law();
+}
+
 /// What the ends of a session leave. It published nothing.
 fn left<'h, L: Link, D: Dial, C: Clock>(live: Live<'h, L, D, C>, ended: Ended) -> Left<L, D, C>
     requires { PhaseFinishes live ended }
     ensures { Leaves live.entry result.0 result.1 }
 {
+    completes(&live, &ended);
     let outcome = Outcome {
         end: ended.end,
         why: ended.why,
@@ -120,7 +141,7 @@ fn advance<'h, L: Link, D: Dial, C: Clock>(
     phase: Phase,
 ) -> Result<Open<'h, L, D, C>, Left<L, D, C>>
     requires told { PhaseTold live phase }
-    ensures { MatchResult result (Waits live.entry) (λ left. Ends live.entry left.0 left.1) }
+    ensures { MatchResult result (Waits (record { live = live.entry; phase = phase })) (λ left. Ends live.entry left.0 left.1) }
 {
     let mut live = live;
     let mut phase = phase;
@@ -169,7 +190,7 @@ impl<'h, L: Link, D: Dial, C: Clock> Open<'h, L, D, C> {
 
     /// Makes the moves of one poll.
     fn advance(self) -> Result<Open<'h, L, D, C>, Left<L, D, C>>
-        ensures { MatchResult result (Waits self.entry.live) (λ left. Ends self.entry.live left.0 left.1) }
+        ensures { MatchResult result (Waits (polled self.entry)) (λ left. Ends (at_poll self.entry.live) left.0 left.1) }
     {
         let Open { mut live, phase } = self;
         live.watch.begin();

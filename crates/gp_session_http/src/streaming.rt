@@ -1,6 +1,6 @@
 //! A session that keeps a hold, streams what it gives, and asks the origin for what was missed.
 ghost use Rattle.std.specs.Prelude.{◌≡◌};
-ghost use Rattle.gp_session_http.specs.Holding.{HasClosed, HasStoppedAt, HeldLeads, HeldTold};
+ghost use Rattle.gp_session_http.specs.Holding.{HasClosed, HasStoppedAt, HeldLeads, HeldTold, IsOnward, StreamTimes};
 ghost use Rattle.gp_session_http.specs.declared.held.Held.TheVariants as held;
 ghost use Rattle.gp_session_http.specs.declared.held.HeldNext.TheVariants as next;
 
@@ -31,6 +31,7 @@ impl Streaming {
     ) -> HeldNext
         requires told { HeldTold live.old (held.Streaming self) }
         ensures leads { HeldLeads live.old live.new 2 result }
+        ensures timed { StreamTimes live.old live.new self result }
     {
         let now = live.watch.moment();
         match self.recovering.poll(
@@ -70,6 +71,7 @@ impl Streaming {
     ) -> HeldNext
         requires told { HasClosed live.old self cause }
         ensures leads { HeldLeads live.old live.new 2 result }
+        ensures on { IsOnward result }
     {
         let Streaming { grant, recovering } = self;
         let hold = recovering.into_hold();
@@ -91,6 +93,7 @@ impl Streaming {
     ) -> HeldNext
         requires told { HasStoppedAt live.old self told end }
         ensures leads { HeldLeads live.old live.new 2 result }
+        ensures on { IsOnward result }
     {
         let Streaming { recovering, .. } = self;
         recovering.into_hold().report(told, &mut live.reports);

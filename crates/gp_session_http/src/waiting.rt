@@ -1,6 +1,6 @@
 //! A session that keeps the hold of a long poll, and waits for its answer.
 ghost use Rattle.std.specs.Prelude.{◌≡◌};
-ghost use Rattle.gp_session_http.specs.Holding.{HeldLeads, HeldTold};
+ghost use Rattle.gp_session_http.specs.Holding.{HeldLeads, HeldTold, IsOnward, PollTimes};
 ghost use Rattle.gp_session_http.specs.LongPolls.{HasAnswered, HasRepeated, HasStopped};
 ghost use Rattle.gp_session_http.specs.declared.held.Held.TheVariants as held;
 ghost use Rattle.gp_session_http.specs.declared.held.HeldNext.TheVariants as next;
@@ -40,6 +40,7 @@ impl Waiting {
     ) -> HeldNext
         requires told { HeldTold live.old (held.Waiting self) }
         ensures leads { HeldLeads live.old live.new 4 result }
+        ensures timed { PollTimes self result }
     {
         let now = live.watch.moment();
         let Waiting {
@@ -111,6 +112,7 @@ fn answer<'h, L: Link, D: Dial, C: Clock>(
 ) -> HeldNext
     requires told { HasAnswered live.old poll hold cause code }
     ensures leads { HeldLeads live.old live.new 4 result }
+    ensures on { IsOnward result }
 {
     let said = Snapshot::of(&hold);
     hold.report(Some(cause), &mut live.reports);
@@ -132,6 +134,7 @@ fn stop<'h, L: Link, D: Dial, C: Clock>(
 ) -> HeldNext
     requires told { HasStopped live.old poll hold told end }
     ensures leads { HeldLeads live.old live.new 4 result }
+    ensures on { IsOnward result }
 {
     drop(poll);
     hold.report(told, &mut live.reports);
@@ -147,6 +150,7 @@ fn repeat<'h, L: Link, D: Dial, C: Clock>(
 ) -> HeldNext
     requires told { HasRepeated live.old poll again repeated }
     ensures leads { HeldLeads live.old live.new 4 result }
+    ensures on { IsOnward result }
 {
     forward_law();
     drop(poll);

@@ -25,7 +25,7 @@ use Rattle.gp_session_publish.specs.declared.reading_body.ReadingBody.{ReadingBo
 use Rattle.gp_session_publish.specs.Routing.{is_path, is_post, IsRouted, cause_of, IsPublish, IsRefusedFor}
 use Rattle.gp_session_publish.specs.Views.{LiveView, Moved}
 use Rattle.gp_session_publish.specs.Trace.{Asks, Makes, text_of, Stays, Told}
-use Rattle.gp_session_publish.specs.Moves.{IsReading, why_at, waits, Used, Leads, IsUnanswered}
+use Rattle.gp_session_publish.specs.Moves.{IsReading, IsUnread, why_at, waits, Used, Leads, IsUnanswered}
 use Rattle.gp_session_publish.proofs.Rows.{with_wire, moved_over, stays_over}
 
 pub moved_same : (v : LiveView) → Moved v v
@@ -38,14 +38,14 @@ unanswered_as l P Q u on = record { request = request_same l.wire l.wire P Q u.r
 
 module _ (v : LiveView) (w : WireView) (more : List ℕ) (start : w.start ≡ v.wire.start) (rest : w.rest ≡ v.wire.rest) (hears : Hears v.wire.link w.link more) where
   pub heard_moved : Moved v (with_wire v w)
-  heard_moved = moved_over v w (moved_heard v.wire w more start hears)
+  heard_moved = moved_over v w (moved_heard v.wire w more start rest hears)
 
   pub heard : (P Q : List ℕ → Type 0) → IsUnanswered v P → ((received : List ℕ) → P received → Q (received ++ more)) → IsUnanswered (with_wire v w) Q
   heard P Q u on = record {
     request = request_more v.wire w P Q more u.request start hears on;
     entries = u.entries;
     bytes = sent_same v.wire w [] u.bytes start hears.sent rest;
-    stays = stays_over v w (moved_heard v.wire w more start hears) u.stays;
+    stays = stays_over v w start hears.later u.stays;
   }
 
   pub gone_since : Stays v → IsGone v.wire.link w.link → Rose w.start.faults w.link.faults ⊎ Rose w.start.ends w.link.ends
@@ -122,9 +122,9 @@ module _ (l : LiveView) (stage : Stage) (reads : IsReading stage) (entries : Mak
     };
   })
 
-  pub gone_end : (why_is : why.Nothing ≡ why_at stage) → (text_of stage ≡ []) → RequestRow l.wire (Asks stage) → BytesRow l.wire (exactly []) → Stays l → Rose l.wire.start.faults l.wire.link.faults ⊎ Rose l.wire.start.ends l.wire.link.ends
+  pub gone_end : IsUnread stage → (why_is : why.Nothing ≡ why_at stage) → (text_of stage ≡ []) → RequestRow l.wire (Asks stage) → BytesRow l.wire (exactly []) → Stays l → Rose l.wire.start.faults l.wire.link.faults ⊎ Rose l.wire.start.ends l.wire.link.ends
       → (ended : Ended) → ended ≡ record { end = end.ClientGone; why = why.Nothing; published = 0 } → Leads u l n (End ended)
-  gone_end why_is text request bytes stays gone ended is = subst (λ (x : Ended). Leads u l n (End x)) (sym is) (record {
+  gone_end unread why_is text request bytes stays gone ended is = subst (λ (x : Ended). Leads u l n (End x)) (sym is) (record {
     moved = moved;
     to = record {
       stage = stage;
@@ -135,9 +135,9 @@ module _ (l : LiveView) (stage : Stage) (reads : IsReading stage) (entries : Mak
     };
   })
     where
-      failed_or_ended : Rose l.wire.start.faults l.wire.link.faults ⊎ Rose l.wire.start.ends l.wire.link.ends → Rose l.wire.start.faults l.wire.link.faults ⊎ (Rose l.wire.start.ends l.wire.link.ends × IsReading stage)
+      failed_or_ended : Rose l.wire.start.faults l.wire.link.faults ⊎ Rose l.wire.start.ends l.wire.link.ends → Rose l.wire.start.faults l.wire.link.faults ⊎ (Rose l.wire.start.ends l.wire.link.ends × IsReading stage × IsUnread stage)
       failed_or_ended (inl f) = inl f
-      failed_or_ended (inr e) = inr (e, reads)
+      failed_or_ended (inr e) = inr (e, reads, unread)
 
 -- where nothing was said yet, nothing waits
 append_none : (xs ys : List ℕ) → xs ++ ys ≡ [] → ys ≡ []
@@ -163,7 +163,7 @@ module _ (v : LiveView) (s : HeadStage) (told : Told v (ReadingHead s)) (w : Wir
   head_gone begun gone ended is =
       let t : HeadStage = record { intake = s.intake ++ more } in
       let u = head_at (Asks (ReadingHead t)) (refl, begun) in
-      gone_end (with_wire v w) (ReadingHead t) tt u.entries u.entries 4 v (heard_moved v w more start rest hears) refl refl u.request u.bytes u.stays
+      gone_end (with_wire v w) (ReadingHead t) tt u.entries u.entries 4 v (heard_moved v w more start rest hears) tt refl refl u.request u.bytes u.stays
       (gone_since v w more start rest hears told.stays gone) ended is
 
   pub head_no_memory : UsedHead (s.intake ++ more) → (ended : Ended) → ended ≡ record { end = end.NoMemory; why = why.Nothing; published = 0 } → Leads v (with_wire v w) 4 (End ended)
@@ -206,7 +206,7 @@ module _ (v : LiveView) (s : BodyStage) (told : Told v (ReadingBody s)) (w : Wir
   body_gone h ended is =
       let t : BodyStage = record { intake = h.0.w } in
       let u = body_at (Asks (ReadingBody t)) (h.0.underway.headed, is_routed h.0.w.head h.0.w.path h.0.head_is h.0.path_is) in
-      gone_end (with_wire v w) (ReadingBody t) tt u.entries u.entries 3 v (heard_moved v w more start rest hears) refl refl u.request u.bytes u.stays
+      gone_end (with_wire v w) (ReadingBody t) tt u.entries u.entries 3 v (heard_moved v w more start rest hears) h.0.underway.more refl refl u.request u.bytes u.stays
       (gone_since v w more start rest hears told.stays h.1) ended is
 
   pub body_no_memory : UsedBody s.intake (came ++ more) → (ended : Ended) → ended ≡ record { end = end.NoMemory; why = why.Nothing; published = 0 } → Leads v (with_wire v w) 3 (End ended)

@@ -3,3 +3,4 @@ pub mod Hearing
 pub mod Taking
 pub mod Standing
 pub mod Turning
+pub mod Completing

@@ -2,7 +2,7 @@
 use Rattle.std.proofs.Common.{◌≡◌, ℕ, suc, ◌≤◌, List, [], ◌∷◌, ◌++◌, length, map, refl, sym, ap, ◌∙◌, subst, arith, append-nil, inl, inr}
 use Rattle.gp_plain.specs.declared.event.Entry.{Entry}
 use Rattle.gp_plain.specs.declared.item.Item.{Item}
-use Rattle.gp_outside.specs.Links.{LinkTells}
+use Rattle.gp_outside.specs.Links.{LinkTells, LinkLater}
 use Rattle.gp_outbox.specs.declared.outbox.Flushed.{Flushed}
 use Rattle.gp_outbox.specs.declared.outbox.Flushed.TheVariants as flushed
 use Rattle.gp_hub.specs.declared.outcome.SessionEnd.{SessionEnd}
@@ -13,7 +13,7 @@ use Rattle.gp_answer.specs.declared.refusal.Refusal.{Refusal}
 use Rattle.gp_answer.specs.Refusals.{refusal_head, refusal_body}
 use Rattle.gp_session.specs.Wires.{WireView, MovedWire, RequestRow, Sent, BytesRow, Flushes}
 use Rattle.gp_session.specs.Seats.{publish_of}
-use Rattle.gp_session.proofs.Moving.{rose_since, later_since, request_same, sent_flushed, sent_put, sent_same, moved_flushed, moved_put, moved_seat_same, moved_seat_again, moved_wire_again, busied_from, read_waited_from, write_waited_from}
+use Rattle.gp_session.proofs.Moving.{rose_since, later_since, request_same, sent_flushed, sent_put, sent_same, moved_flushed, later_put, moved_put, moved_none_put, moved_seat_same, moved_seat_again, moved_wire_again, busied_from, read_waited_from, write_waited_from}
 use Rattle.gp_session_publish.specs.declared.stage.Stage.{Stage}
 use Rattle.gp_session_publish.specs.declared.stage.Stage.TheVariants.{Refusing}
 use Rattle.gp_session_publish.specs.declared.stage.Ended.{Ended}
@@ -36,8 +36,8 @@ moved_over v w m = record { wire = m; seat = moved_seat_same v.seat }
 pub moved_again : (u v w : LiveView) → Moved u v → Moved v w → Moved u w
 moved_again u v w a b = record { wire = moved_wire_again u.wire v.wire w.wire a.wire b.wire; seat = moved_seat_again u.seat v.seat w.seat a.seat b.seat }
 
-pub stays_over : (v : LiveView) (w : WireView) → MovedWire v.wire w → Stays v → Stays (with_wire v w)
-stays_over v w m s = record { holds = s.holds; seat = s.seat; served = s.served; later = later_since v.wire w s.later m }
+pub stays_over : (v : LiveView) (w : WireView) → w.start ≡ v.wire.start → LinkLater v.wire.link w.link → Stays v → Stays (with_wire v w)
+stays_over v w start later s = record { holds = s.holds; seat = s.seat; served = s.served; later = later_since v.wire w s.later start later }
 
 -- the rows at an end
 
@@ -72,7 +72,7 @@ told_flushed v w stage f t h = record {
   request = request_same v.wire w (Asks stage) (Asks stage) t.request h.start h.passed.received (λ received asks. asks);
   entries = t.entries;
   bytes = sent_flushed v.wire w (text_of stage) f t.bytes h;
-  stays = stays_over v w (moved_flushed v.wire w f h) t.stays;
+  stays = stays_over v w h.start h.passed.later t.stays;
 }
 
 -- a stage that sends its answer, with what it tells at its end
@@ -148,17 +148,17 @@ module _ (v : LiveView) (w : WireView) (cause : Cause) (method : List ℕ) (m : 
   text = ap (λ (c : Cause). refusal_text c method) (sym cause_is) ∙ ap (refusal_text s.cause) (sym method_is)
 
   still : Stays (with_wire v w)
-  still = stays_over v w (moved_put v.wire w start link) m.stays
+  still = stays_over v w start (later_put v.wire w link) m.stays
 
   pub refused_go : w.rest ≡ v.wire.rest ++ refusal_text cause method → Leads v (with_wire v w) 2 (Go (Refusing s))
   refused_go rest = record {
-    moved = moved_over v w (moved_put v.wire w start link);
+    moved = moved_over v w (moved_put v.wire w (refusal_text cause method) start link rest);
     to = (record { request = row; entries = m.entries; bytes = subst (Sent w) text (sent_put v.wire w [] (refusal_text cause method) m.bytes start link rest); stays = still }, omega arith);
   }
 
   pub refused_end : w.rest ≡ v.wire.rest → (ended : Ended) → ended ≡ record { end = end.NoMemory; why = why_of s.cause; published = 0 } → Leads v (with_wire v w) 2 (End ended)
   refused_end rest ended is = subst (λ (x : Ended). Leads v (with_wire v w) 2 (End x)) (sym is) (record {
-    moved = moved_over v w (moved_put v.wire w start link);
+    moved = moved_over v w (moved_none_put v.wire w start link rest);
     to = record {
       stage = Refusing s;
       told = record {

@@ -11,7 +11,7 @@ use Rattle.gp_hub.specs.Own.{mine}
 use Rattle.gp_answer.specs.Refusals.{published_head, published_text}
 use Rattle.gp_session.specs.Wires.{WireView}
 use Rattle.gp_session.specs.Seats.{SeatView, MovedSeat, IsServed, IsWorn, Busied, publish_of}
-use Rattle.gp_session.proofs.Moving.{moved_wire_same, sent_put, sent_same, request_same, moved_put}
+use Rattle.gp_session.proofs.Moving.{moved_wire_same, sent_put, sent_same, request_same, later_put, moved_put, moved_none_put}
 use Rattle.gp_session_publish.specs.declared.stage.Stage.TheVariants.{Publishing, Answering}
 use Rattle.gp_session_publish.specs.declared.stage.Ended.{Ended}
 use Rattle.gp_session_publish.specs.declared.stage.Next.TheVariants.{Go, Wait, End}
@@ -108,11 +108,11 @@ answer_put h b t head none tail =
 
 module _ (v : LiveView) (w : WireView) (s : PublishingStage) (told : Told v (Publishing s)) (none : left_of s ≡ []) (start : w.start ≡ v.wire.start) (link : w.link ≡ v.wire.link) where
   still : Stays (with_wire v w)
-  still = stays_over v w (moved_put v.wire w start link) told.stays
+  still = stays_over v w start (later_put v.wire w link) told.stays
 
   pub answered : (t : AnsweringStage) → t.published ≡ s.published → t.request ≡ s.request → w.rest ≡ v.wire.rest ++ answer_text → Leads v (with_wire v w) 2 (Go (Answering t))
   answered t count same rest = record {
-    moved = moved_over v w (moved_put v.wire w start link);
+    moved = moved_over v w (moved_put v.wire w answer_text start link rest);
     to = (
       record {
         request = request_same v.wire w (Asks (Publishing s)) (Asks (Answering t)) told.request start (ap (λ (x : LinkTells). x.received) link) (λ received h. subst (λ r. IsPublish r.value received) (sym same) h);
@@ -128,7 +128,7 @@ module _ (v : LiveView) (w : WireView) (s : PublishingStage) (told : Told v (Pub
 
   pub unanswered : w.rest ≡ v.wire.rest → (ended : Ended) → ended ≡ record { end = end.NoMemory; why = why.Nothing; published = s.published } → Leads v (with_wire v w) 2 (End ended)
   unanswered rest ended is = subst (λ (x : Ended). Leads v (with_wire v w) 2 (End x)) (sym is) (record {
-    moved = moved_over v w (moved_put v.wire w start link);
+    moved = moved_over v w (moved_none_put v.wire w start link rest);
     to = record {
       stage = Publishing s;
       told = at_end end.NoMemory (with_wire v w) (Publishing s) (record {

@@ -112,11 +112,11 @@ HasCode (Answering s) code = code ≡ 200
 HasCode (Refusing s) code = code ≡ code_of (refusal_of s.cause)
 
 -- why the session ends so. Sent comes where all was sent. The client is gone where its link failed, or where its input ended
--- before the request was whole
+-- before the request was whole or refused
 abbrev pub EndSays : SessionEnd → LiveView → Stage → Type 0
 EndSays (Sent code) l stage = (l.wire.rest ≡ []) × HasCode stage code
 EndSays (Cut cause) l stage = ⊥
-EndSays ClientGone l stage = HasFailed l.wire ⊎ (HasEnded l.wire × IsReading stage)
+EndSays ClientGone l stage = HasFailed l.wire ⊎ (HasEnded l.wire × IsReading stage × IsUnread stage)
 EndSays Worn l stage = IsWorn l.seat
 EndSays NoMemory l stage = ⊤
 

@@ -9,7 +9,9 @@ use Rattle.gp_session_publish.specs.declared.stage.Stage.{Stage}
 use Rattle.gp_session_publish.specs.declared.stage.Stage.TheVariants.{ReadingHead}
 use Rattle.gp_session_publish.specs.Views.{LiveView, Moved}
 use Rattle.gp_session_publish.specs.Trace.{Told, new_live}
+use Rattle.gp_session_publish.specs.declared.stage.Ended.{Ended}
 use Rattle.gp_session_publish.specs.Moves.{Finishes, Pends}
+use Rattle.gp_session_publish.specs.Completeness.{Completes}
 
 -- a session that goes on
 pub record OpenView : Type 0 where
@@ -30,9 +32,14 @@ new_session link pass = record { open_is = Some (new_open link pass); left = Non
 abbrev pub HasEnded : SessionView → Type 0
 HasEnded s = s.open_is ≡ None
 
+-- how the outcome tells that a session ended
+abbrev pub ended_of : Outcome → Ended
+ended_of o = record { end = o.end; why = o.why; published = o.published }
+
 -- what a session leaves whose last view was this: its outcome, and its link
 pub record Leaves (l : LiveView) (o : Outcome) (link : LinkTells) : Type 0 where
-  pub finishes : Finishes l (record { end = o.end; why = o.why; published = o.published })
+  pub finishes : Finishes l (ended_of o)
+  pub completes : Completes l (ended_of o)
   pub holds : o.holds.items ≡ []
   pub pass : o.pass ≡ l.seat.pass
   pub link_is : link ≡ l.wire.link

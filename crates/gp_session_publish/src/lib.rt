@@ -10,7 +10,8 @@
 //!
 //! `specs/Routing.antt` says which requests are served and what each is answered. `specs/Trace.antt` has the rows that hold after
 //! every move: what the bytes received are, what the session published, and what it sent. `specs/Polls.antt` says what a poll
-//! answers, and why. It stands on `gp_session`, `gp_intake`, `gp_items`, `gp_answer` and `gp_hub`, and has no handle.
+//! answers, and why. `specs/Completeness.antt` says that a request that is accepted is answered, unless something disturbs the
+//! session. It stands on `gp_session`, `gp_intake`, `gp_one_request`, `gp_items`, `gp_answer` and `gp_hub`, and has no handle.
 #![tactic(auto)]
 
 mod answering;

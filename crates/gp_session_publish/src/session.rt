@@ -10,6 +10,7 @@ use crate::reading_head::ReadingHead;
 use crate::stage::{Ended, Next, Stage};
 use gp_hub::{Hub, HubPass, Outcome, Polled, Session};
 use gp_intake::HeadIntake;
+use gp_one_request::request_law;
 use gp_outside::Link;
 use gp_plain::HoldReports;
 use std::alloc::Global;
@@ -34,7 +35,8 @@ impl<'h, L: Link> Model for Open<'h, L> {
 }
 
 /// A session with a publisher. It reads one request, `POST /publish` or `POST /publish/`, publishes the items of its body in
-/// order, each by one call of the hub, and answers 200 once all stand. Else it answers a refusal, and publishes nothing.
+/// order, each by one call of the hub, and answers 200 once all stand. Else it answers a refusal, and publishes nothing. It ends
+/// no other way unless its input ends too early, its link fails, the hub serves no more or memory is wanting.
 #[derive(Drop)]
 pub struct PublishSession<'h, L: Link> {
     open: Option<Open<'h, L>>,
@@ -60,6 +62,7 @@ fn left<'h, L: Link>(live: Live<'h, L>, ended: Ended) -> Left<L>
     requires { Finishes live ended }
     ensures { Leaves live.entry result.0 (L.tells result.1) }
 {
+    request_law();
     let Live { alloc, wire, seat } = live;
     let outcome = Outcome {
         end: ended.end,

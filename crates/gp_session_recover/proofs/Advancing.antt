@@ -1,12 +1,18 @@
 -- What a poll of a talk comes to in which a stream asks for a page.
-use Rattle.std.proofs.Common.{◌≡◌, ℕ, List, [], ◌∷◌, ◌++◌, refl, sym, ap, ◌∙◌, subst, append-nil, Option, Some, None}
+use Rattle.std.proofs.Common.{◌≡◌, ℕ, ◌<◌, arith, List, [], ◌∷◌, ◌++◌, refl, sym, ap, ◌∙◌, subst, append-nil, Option, Some, None}
 use Rattle.std.specs.declared.snapshot.Snapshot.{Snapshot}
 use Rattle.gp_plain.specs.declared.event.Then.{Then}
+use Rattle.gp_outside.specs.Counts.{Rose}
+use Rattle.gp_outside.specs.Dials.{DialTells}
+use Rattle.gp_exchange.specs.Answers.{Waits, rank}
+use Rattle.gp_exchange.specs.declared.answer.ExchangeFault.TheVariants.{Dial}
 use Rattle.gp_exchange.specs.declared.place.Place.{Place}
+use Rattle.gp_exchange.specs.declared.place.Place.TheVariants as place
 use Rattle.gp_recover.specs.Moves.{Gives, IsAnswered, IsGiven, IsKept}
-use Rattle.gp_recover.specs.Views.{IsLive, RecoveryView, SoughtView, answer_at, place_of, told}
+use Rattle.gp_recover.specs.Views.{IsLive, RecoveryView, SoughtView, answer_at, place_at, place_of, told}
 use Rattle.gp_recover.specs.declared.page.Page.{Page as RecoveredPage}
 use Rattle.gp_recover.specs.declared.page.PageFault.{PageFault}
+use Rattle.gp_recover.specs.declared.page.PageFault.TheVariants.{Exchange}
 use Rattle.gp_recover.specs.declared.recovered.Last.{Last}
 use Rattle.gp_recover.specs.declared.recovered.Last.TheVariants as last
 use Rattle.gp_recover.specs.declared.recovered.Recovered.{Recovered}
@@ -42,13 +48,22 @@ live_by (Reading reading) e = tt
 live_by (Over over) e = no_wait over.last e
 live_by Lost e = absurd (let no : NotReady ≡ NoMemory = e in (cc))
 
+-- an exchange that waits isn't over
+early_waits : (p : Place) (old now : DialTells) → Waits p old now → rank p < 5
+early_waits (place.Unbegun request) old now w = omega arith
+early_waits (place.Connecting request) old now w = omega arith
+early_waits (place.Sending sending) old now w = omega arith
+early_waits (place.Heading heading) old now w = omega arith
+early_waits (place.Reading reading) old now w = omega arith
+early_waits (place.Over over) old now w = absurd w
+
 module _ (t : OpenTalk) (l m : LineView) (moved : MovedLine l m) (s : SoughtView) (st : Stage) (sought : s ≡ t.recovery.sought) (kept : IsKept s st)
     (row : (aims : List Aim) → SeeksRow l aims t.recovery → LineRow m (aims_at s st aims) (last_at s st)) where
   abbrev after : RecoveryView
   after = record { sought = s; stage = st }
 
   pub waits_by : NotReady ≡ answer_at st → Gives (place_of t.recovery) (place_of after) l.dial m.dial NotReady → Advances t l m (advanced.Waits (record { recovery = after; from = t.from; moment = t.moment }))
-  waits_by answers gave = record { moved = moved; says = record { sought = sought; from = refl; moment = refl; live = live_by st answers; waits = gave.1; row = row } }
+  waits_by answers gave = record { moved = moved; says = record { sought = sought; from = refl; moment = refl; live = live_by st answers; early = early_waits (place_of after) l.dial m.dial gave.1; waits = gave.1; row = row } }
 
 -- the talk is over
 module _ (t : OpenTalk) (l m : LineView) (s : SoughtView) (over : Ending) (sought : s ≡ t.recovery.sought) (row : (aims : List Aim) → SeeksRow l aims t.recovery → LineRow m (aims_at s (Over over) aims) (last_at s (Over over))) where
@@ -71,10 +86,12 @@ module _ (t : OpenTalk) (l m : LineView) (s : SoughtView) (over : Ending) (sough
   got_at page link is_link (last.Failed fault) is e given = absurd cc
   got_at page link is_link last.NoMemory is e given = absurd cc
 
-  failed_at : (fault : PageFault) (end : Last) → over.last ≡ end → Failed fault ≡ told end → FailedPage t l m
-  failed_at fault (last.Got snap) is e = absurd cc
-  failed_at fault (last.Failed f) is e = record { at = over.exchange.value.place; fault = f; row = row_at (last.Failed f) is }
-  failed_at fault last.NoMemory is e = absurd cc
+  failed_at : (fault : PageFault) (end : Last) → over.last ≡ end → Failed fault ≡ told end → (rank (place_of t.recovery) < 5 → fault ≡ Exchange Dial → Rose l.dial.faults m.dial.faults) → FailedPage t l m
+  failed_at fault (last.Got snap) is e rises = absurd cc
+  failed_at fault (last.Failed f) is e rises =
+      let same : f ≡ fault = cc in
+      record { at = over.exchange.value.place; fault = f; rises = λ early dial. rises early (sym same ∙ dial); row = row_at (last.Failed f) is }
+  failed_at fault last.NoMemory is e rises = absurd cc
 
   lost_at : (end : Last) → over.last ≡ end → LostPage t l m
   lost_at end is = record {
@@ -92,12 +109,16 @@ module _ (t : OpenTalk) (l m : LineView) (moved : MovedLine l m) (s : SoughtView
   got_by page link is (Over over) kept row e = record { moved = moved; says = got_at t l m s over sought row page link is over.last refl e kept }
   got_by page link is Lost kept row e = absurd (let no : Got page ≡ NoMemory = e in (cc))
 
-  pub failed_by : (fault : PageFault) (st : Stage) → ((aims : List Aim) → SeeksRow l aims t.recovery → LineRow m (aims_at s st aims) (last_at s st)) → Failed fault ≡ answer_at st → Advances t l m advanced.Failed
-  failed_by fault (Unbegun unbegun) row e = absurd (let no : Failed fault ≡ NotReady = e in (cc))
-  failed_by fault (Heading heading) row e = absurd (let no : Failed fault ≡ NotReady = e in (cc))
-  failed_by fault (Reading reading) row e = absurd (let no : Failed fault ≡ NotReady = e in (cc))
-  failed_by fault (Over over) row e = record { moved = moved; says = failed_at t l m s over sought row fault over.last refl e }
-  failed_by fault Lost row e = absurd (let no : Failed fault ≡ NoMemory = e in (cc))
+  dial_rises : (st : Stage) (fault : PageFault) → Gives (place_of t.recovery) (place_at s st) l.dial m.dial (Failed fault) → rank (place_of t.recovery) < 5 → fault ≡ Exchange Dial → Rose l.dial.faults m.dial.faults
+  dial_rises st fault gave early is = (subst (λ (f : PageFault). Gives (place_of t.recovery) (place_at s st) l.dial m.dial (Failed f)) is gave).1 early
+
+  pub failed_by : (fault : PageFault) (st : Stage) → ((aims : List Aim) → SeeksRow l aims t.recovery → LineRow m (aims_at s st aims) (last_at s st)) → Failed fault ≡ answer_at st
+      → Gives (place_of t.recovery) (place_at s st) l.dial m.dial (Failed fault) → Advances t l m advanced.Failed
+  failed_by fault (Unbegun unbegun) row e gave = absurd (let no : Failed fault ≡ NotReady = e in (cc))
+  failed_by fault (Heading heading) row e gave = absurd (let no : Failed fault ≡ NotReady = e in (cc))
+  failed_by fault (Reading reading) row e gave = absurd (let no : Failed fault ≡ NotReady = e in (cc))
+  failed_by fault (Over over) row e gave = record { moved = moved; says = failed_at t l m s over sought row fault over.last refl e (dial_rises (Over over) fault gave) }
+  failed_by fault Lost row e gave = absurd (let no : Failed fault ≡ NoMemory = e in (cc))
 
   pub lost_by : (st : Stage) → ((aims : List Aim) → SeeksRow l aims t.recovery → LineRow m (aims_at s st aims) (last_at s st)) → NoMemory ≡ answer_at st → Advances t l m advanced.NoMemory
   lost_by (Unbegun unbegun) row e = absurd (let no : NoMemory ≡ NotReady = e in (cc))

@@ -36,7 +36,7 @@ streams_heard v w y s h l x = record {
 -- and the rows
 recovers_heard : (signer : Signer) (source : Option AgainView) (aims : List Aim) (qs : List Quest) (a : Sides) (y : WireView) → Recovers signer source aims qs a → Recovers signer source aims qs (record a { wire = y })
 recovers_heard signer source aims qs a y r = record {
-  stood = record { again = r.stood.again; asked = r.stood.asked; ids = r.stood.ids; talk = r.stood.talk };
+  stood = record { again = r.stood.again; asked = r.stood.asked; ids = r.stood.ids; talk = r.stood.talk; dialed = r.stood.dialed };
   spec = r.spec;
   spec_is = r.spec_is;
   linked = r.linked;
@@ -59,7 +59,7 @@ gone_heard signer now a y u m l r e = record {
     number = ap (λ (v : StreamView). v.hold.number) e.stream;
     chunked = ap (λ (v : StreamView). v.chunked) e.stream;
     head = ap (λ (v : StreamView). v.head) e.stream;
-    wire = moved_heard a.wire y l.heard_is.more l.start l.heard_is.hears;
+    wire = moved_heard a.wire y l.heard_is.more l.start l.rest l.heard_is.hears;
     heard = l.heard_is.more;
     received = l.heard_is.hears.received;
     line = e.moved;
@@ -72,7 +72,7 @@ gone_heard signer now a y u m l r e = record {
   says = record {
     serves = λ free. free;
     closed = λ source aims qs row.
-        shut_on signer source aims qs qs now a a (sides u y m a.seat) None row.stood [] (sym (append-nil qs)) (timed_none now (moments_at qs a) (moments_at qs a) refl) (ap (λ (v : StreamView). v.hold.number) e.stream) refl e.moved.start e.says;
+        shut_on signer source aims qs qs now a a (sides u y m a.seat) None row.stood [] (sym (append-nil qs)) (timed_none now (moments_at qs a) (moments_at qs a) refl) (ap (λ (v : StreamView). v.hold.number) e.stream) refl e.moved e.says;
     says = (subst (λ (v : StreamView). Streams v y a.seat) (sym e.stream) (streams_heard a.is.stream a.wire y a.seat heard.Gone l r.streams), l.heard_is.says);
   };
 }
@@ -96,7 +96,7 @@ module _ (signer : Signer) (now : ℕ) (a b : Sides) (y : WireView) (h : Heard) 
   from = record a { wire = y }
 
   wire : MovedWire a.wire y
-  wire = moved_heard a.wire y l.heard_is.more l.start l.heard_is.hears
+  wire = moved_heard a.wire y l.heard_is.more l.start l.rest l.heard_is.hears
 
   -- an activity has its cause, or as much was heard as may be
   pends_by : (ReadWaited a.wire b.wire → StreamWaits (hold_of a) now a.wire b.wire a.seat b.seat) → y.link.read_waits ≤ b.wire.link.read_waits → StreamPends (hold_of a) now a.wire b.wire a.seat b.seat l.heard_is.more

@@ -7,7 +7,7 @@ use Rattle.gp_plain.specs.declared.http.Signer.{Signer}
 use Rattle.gp_outside.specs.Dials.{IsIdle}
 use Rattle.gp_exchange.specs.Answers.{rank}
 use Rattle.gp_again.specs.Views.{AgainView}
-use Rattle.gp_session.specs.Lines.{Aim, LineRow, LineView, aim_of, begun_with, idle, more_if}
+use Rattle.gp_session.specs.Lines.{Aim, LineRow, LineView, MovedLine, aim_of, begun_with, idle, more_if}
 use Rattle.gp_session.specs.Paging.{page_event}
 use Rattle.gp_session.specs.Seats.{SeatView}
 use Rattle.gp_session.specs.Seeking.{SeeksRow, said_by}
@@ -15,13 +15,13 @@ use Rattle.gp_session.specs.Wires.{WireView}
 use Rattle.gp_session_hold.specs.Rows.{PagesRow, recovers_at}
 use Rattle.gp_session_hold.specs.Streams.{StreamView}
 use Rattle.gp_session_recover.specs.Quests.{AreAsked, Quest, after_quests, aims_of, event_of, events_of, ids_of, moments_of}
-use Rattle.gp_session_recover.specs.Rows.{AsksOf, Closed, ClosesAs, IsCutTalk, IsOpen, IsOver, RecoveringView, Recovers, Sides, Stood, TalkRow, UntoldRow, hold_of, id_open, moment_open}
+use Rattle.gp_session_recover.specs.Rows.{AsksOf, Closed, ClosesAs, Dialed, IsCutTalk, IsOpen, IsOver, RecoveringView, Recovers, Sides, Stood, TalkRow, UntoldRow, hold_of, id_open, moment_open}
 use Rattle.gp_session_recover.specs.Polls.{ClosedOn, RecoversOn, Timed, moments_at}
 use Rattle.gp_session_recover.specs.declared.open.Open.{Open as OpenTalk}
 use Rattle.gp_session_recover.specs.declared.talk.Talk.{Talk}
 use Rattle.gp_session_recover.specs.declared.talk.Talk.TheVariants.{None as NoTalk, Open, Page, Failed}
 use Rattle.gp_session_recover.proofs.Asked.{asks_map, events_more}
-use Rattle.gp_session_recover.proofs.Sought.{timed_none}
+use Rattle.gp_session_recover.proofs.Sought.{dialed_on, timed_none}
 
 -- one talk more, where it began
 abbrev cut_if : ℕ → Aim → Option Aim
@@ -46,8 +46,11 @@ module _ (signer : Signer) (source : Option AgainView) (aims : List Aim) (qs : L
       (subst (λ (all : List Aim). LineRow l all idle) (sym (append_assoc aims (aims_of qs) [] ∙ ap (λ xs. aims ++ xs) (append-nil (aims_of qs)))) (over (subst (λ (x : LineView). IsIdle x.start) same alone)))
 
   -- the hub wasn't told of the last quest
-  untold_shut : (talk : Talk) (e : Event) → id_open talk ≡ [] → Stood signer source aims qs (at talk) more → m ≡ l → UntoldRow s stream.hold.number qs (e ∷ []) → IsOver l aims qs → Closed signer source aims qs stream.hold.number m s
-  untold_shut talk e none r same row over = record {
+  dialed_at : MovedLine l m → Dialed l qs → Dialed m qs
+  dialed_at moved d = dialed_on l m qs moved d
+
+  untold_shut : (talk : Talk) (e : Event) → MovedLine l m → id_open talk ≡ [] → Stood signer source aims qs (at talk) more → m ≡ l → UntoldRow s stream.hold.number qs (e ∷ []) → IsOver l aims qs → Closed signer source aims qs stream.hold.number m s
+  untold_shut talk e moved none r same row over = record {
     asked = r.asked;
     cut = None;
     cut_is = tt;
@@ -59,10 +62,11 @@ module _ (signer : Signer) (source : Option AgainView) (aims : List Aim) (qs : L
     open_id = None;
     more = more;
     ids = r.ids ∙ ap (λ xs. ids_of qs ++ (xs ++ option_to_list more)) none;
+    dialed = dialed_at moved r.dialed;
   }
 
-  pub shut : (talk : Talk) → m.start ≡ l.start → Stood signer source aims qs (at talk) more → ClosesAs talk l m → Closed signer source aims qs stream.hold.number m s
-  shut NoTalk start r c = record {
+  pub shut : (talk : Talk) → MovedLine l m → Stood signer source aims qs (at talk) more → ClosesAs talk l m → Closed signer source aims qs stream.hold.number m s
+  shut NoTalk moved r c = record {
     asked = r.asked;
     cut = None;
     cut_is = tt;
@@ -74,8 +78,9 @@ module _ (signer : Signer) (source : Option AgainView) (aims : List Aim) (qs : L
     open_id = None;
     more = more;
     ids = r.ids;
+    dialed = dialed_at moved r.dialed;
   }
-  shut (Open t) start r c =
+  shut (Open t) moved r c =
       let aim : Aim = aim_of (said_by t.recovery) in
       let n : ℕ = rank (said_by t.recovery).exchange.place in
       record {
@@ -84,7 +89,7 @@ module _ (signer : Signer) (source : Option AgainView) (aims : List Aim) (qs : L
         cut_is = cut_is_if n aim (λ (x : Aim). AsksOf (option_map (λ (o : AgainView). after_quests o qs) source) (λ o. IsCutTalk signer o x))
             (subst (λ (x : Option AgainView). AsksOf x (λ o. IsCutTalk signer o aim)) r.again
             (asks_map again (IsOpen signer t) (λ o. IsCutTalk signer o aim) (λ o is. record { to = is.to; moment = t.moment.value; from = t.from; request = is.request }) r.talk.1.is));
-        talks = λ alone. subst (λ (all : List Aim). LineRow m all idle) (more_cut n (aims ++ aims_of qs) aim) (c (aims ++ aims_of qs) (r.talk.1.talks (subst IsIdle start alone)));
+        talks = λ alone. subst (λ (all : List Aim). LineRow m all idle) (more_cut n (aims ++ aims_of qs) aim) (c (aims ++ aims_of qs) (r.talk.1.talks (subst IsIdle moved.start alone)));
         told = events_of stream.hold.number qs;
         untold = None;
         events = sym (append-nil (events_of stream.hold.number qs));
@@ -92,9 +97,10 @@ module _ (signer : Signer) (source : Option AgainView) (aims : List Aim) (qs : L
         open_id = Some t.from;
         more = more;
         ids = r.ids;
+        dialed = dialed_at moved r.dialed;
       }
-  shut (Page page) start r c = untold_shut (Page page) (page_event stream.hold.number page) refl r c r.talk.0 r.talk.1
-  shut Failed start r c = untold_shut Failed (event.PageFailed stream.hold.number) refl r c r.talk.0 r.talk.1
+  shut (Page page) moved r c = untold_shut (Page page) (page_event stream.hold.number page) moved refl r c r.talk.0 r.talk.1
+  shut Failed moved r c = untold_shut Failed (event.PageFailed stream.hold.number) moved refl r c r.talk.0 r.talk.1
 
 -- the moment of a talk that was cut
 abbrev dropped_of : Talk → Option ℕ
@@ -111,12 +117,12 @@ dropped_is Failed = refl
 
 -- a stream that ends behind so many quests
 pub shut_on : (signer : Signer) (source : Option AgainView) (aims : List Aim) (qs rs : List Quest) (now : ℕ) (a b c : Sides) (more : Option (List ℕ)) → Stood signer source aims rs b more → (new : List Quest) → rs ≡ qs ++ new → Timed now (moments_at qs a) (moments_at rs b)
-    → hold_of c ≡ hold_of b → c.seat ≡ b.seat → c.line.start ≡ b.line.start → ClosesAs b.is.talk b.line c.line → ClosedOn signer source aims qs now a c
-shut_on signer source aims qs rs now a b c more r new all timed hold seat start closes = record {
+    → hold_of c ≡ hold_of b → c.seat ≡ b.seat → MovedLine b.line c.line → ClosesAs b.is.talk b.line c.line → ClosedOn signer source aims qs now a c
+shut_on signer source aims qs rs now a b c more r new all timed hold seat moved closes = record {
   more = new;
   row = subst (λ (xs : List Quest). Closed signer source aims xs (hold_of c) c.line c.seat) all
       (subst (λ (n : ℕ). Closed signer source aims rs n c.line c.seat) (sym hold) (subst (λ (x : SeatView). Closed signer source aims rs (hold_of b) c.line x) (sym seat)
-      (shut signer source aims rs b.is.stream b.is.again b.wire b.line c.line b.seat more b.is.talk start r closes)));
+      (shut signer source aims rs b.is.stream b.is.again b.wire b.line c.line b.seat more b.is.talk moved r closes)));
   dropped = dropped_of b.is.talk;
   timed = record {
     more = timed.more;

@@ -1,13 +1,18 @@
 -- What a poll of the talk does to the rows of the recoveries.
-use Rattle.std.proofs.Common.{◌≡◌, ℕ, Bool, true, false, List, [], ◌∷◌, ◌++◌, refl, sym, ap, ◌∙◌, subst, append_assoc, append-nil, Option, Some, None, IfSome, option_map, is_some, unwrap_or}
+use Rattle.std.proofs.Common.{◌≡◌, ℕ, ◌⊎◌, inl, inr, arith, Bool, true, false, List, [], ◌∷◌, ◌++◌, refl, sym, ap, ◌∙◌, subst, append_assoc, append-nil, Option, Some, None, IfSome, option_map, is_some, unwrap_or}
 use Rattle.std.specs.Option.{option_to_list}
-use Rattle.std.specs.List.{All}
-use Rattle.std.proofs.lemmas.List.Elements.{All-nil}
+use Rattle.std.specs.List.{All, Contains}
+use Rattle.std.proofs.lemmas.List.Elements.{All-nil, Contains-append_cases, Contains-push_cases}
 use Rattle.gp_plain.specs.declared.event.Event.{Event}
 use Rattle.gp_plain.specs.declared.event.Event.TheVariants as event
 use Rattle.gp_plain.specs.declared.http.Signer.{Signer}
 use Rattle.gp_plain.specs.Fit.{is_short_page}
-use Rattle.gp_outside.specs.Dials.{IsIdle}
+use Rattle.gp_outside.specs.Counts.{Rose}
+use Rattle.gp_outside.specs.Dials.{DialLater, DialTells, IsIdle}
+use Rattle.gp_exchange.specs.declared.answer.ExchangeFault.TheVariants.{Dial}
+use Rattle.gp_exchange.proofs.Leading.{later_later}
+use Rattle.gp_recover.specs.declared.page.PageFault.{PageFault}
+use Rattle.gp_recover.specs.declared.page.PageFault.TheVariants.{Exchange}
 use Rattle.gp_again.specs.Quests.{Asks}
 use Rattle.gp_again.specs.Views.{AgainView}
 use Rattle.gp_asking.specs.Asking.{IsAsking}
@@ -34,14 +39,43 @@ use Rattle.gp_session.specs.Wires.{WireView}
 use Rattle.gp_session.specs.declared.paging.StreamPage.{StreamPage}
 use Rattle.gp_session_hold.specs.Rows.{PagesRow, recovers_at}
 use Rattle.gp_session_hold.specs.Streams.{StreamView}
-use Rattle.gp_session_recover.specs.Quests.{AreAsked, CameTo, IsQuestBy, Quest, after_quest, after_quests, aims_of, event_of, events_of, ids_of, moments_of}
+use Rattle.gp_session_recover.specs.Quests.{AreAsked, CameTo, FailedByDial, IsQuestBy, Quest, after_quest, after_quests, aims_of, event_of, events_of, ids_of, moments_of}
 use Rattle.gp_session_recover.specs.Talks.{FailedPage, GoesOn, GotPage, LostPage}
-use Rattle.gp_session_recover.specs.Rows.{AsksOf, Closed, IsCutTalk, IsOpen, IsOver, IsShortTalk, IsTalking, OpenRow, RecoveringView, Recovers, SeeksAs, SeeksOpen, Seeks, Sides, Stood, TalkRow, UntoldRow, follow, hold_of, id_open, moment_open, waits, got, failed, lost}
+use Rattle.gp_session_recover.specs.Rows.{AsksOf, Closed, Dialed, IsCutTalk, IsOpen, IsOver, IsShortTalk, IsTalking, OpenRow, RecoveringView, Recovers, SeeksAs, SeeksOpen, Seeks, Sides, Stood, TalkRow, UntoldRow, follow, hold_of, id_open, moment_open, waits, got, failed, lost}
 use Rattle.gp_session_recover.specs.Polls.{ClosedOn, RecoversOn, Timed, moments_at}
 use Rattle.gp_session_recover.specs.declared.open.Open.{Open as OpenTalk}
 use Rattle.gp_session_recover.specs.declared.talk.Talk.{Talk}
 use Rattle.gp_session_recover.specs.declared.talk.Talk.TheVariants.{None as NoTalk, Open, Page, Failed}
 use Rattle.gp_session_recover.proofs.Asked.{again_more, aims_more, asked_more, asks_map, events_more, ids_more, moments_more}
+
+-- the dialer's faults rose before a move, or in it
+faults_on : (l m : LineView) → MovedLine l m → Rose l.start.faults l.dial.faults → Rose m.start.faults m.dial.faults
+faults_on l m moved rose = subst (λ (t : DialTells). Rose t.faults m.dial.faults) (sym moved.start) (let le = moved.later.faults in omega (arith, rose, le))
+
+faults_in : (l m : LineView) → MovedLine l m → DialLater l.start l.dial → Rose l.dial.faults m.dial.faults → Rose m.start.faults m.dial.faults
+faults_in l m moved later rose = subst (λ (t : DialTells). Rose t.faults m.dial.faults) (sym moved.start) (let le = later.faults in omega (arith, le, rose))
+
+later_on : (l m : LineView) → MovedLine l m → DialLater l.start l.dial → DialLater m.start m.dial
+later_on l m moved later = subst (λ (t : DialTells). DialLater t m.dial) (sym moved.start) (later_later l.start l.dial m.dial later moved.later)
+
+pub dialed_on : (l m : LineView) (qs : List Quest) → MovedLine l m → Dialed l qs → Dialed m qs
+dialed_on l m qs moved d = record { later = later_on l m moved d.later; rises = λ q there is. faults_on l m moved (d.rises q there is) }
+
+none_contained : (q : Quest) → Contains [] q → ⊥
+none_contained q (k, lt, at) = absurd (omega (arith, lt))
+
+one_contained : (x q : Quest) → Contains (x ∷ []) q → q ≡ x
+one_contained x q there = by_cases (Contains-push_cases [] x q there)
+  where
+    by_cases : Contains [] q ⊎ (x ≡ q) → q ≡ x
+    by_cases (inl never) = absurd (none_contained q never)
+    by_cases (inr same) = sym same
+
+got_not_failed : (page : Snapshot RecoveredPage) → last.Got page ≡ last.Failed (Exchange Dial) → ⊥
+got_not_failed page is = cc
+
+failed_by : (fault : PageFault) → last.Failed fault ≡ last.Failed (Exchange Dial) → fault ≡ Exchange Dial
+failed_by fault is = cc
 
 -- no moment more was used
 pub timed_none : (now : ℕ) (was is : List ℕ) → is ≡ was → Timed now was is
@@ -108,9 +142,12 @@ module _ (signer : Signer) (source : Option AgainView) (aims : List Aim) (qs : L
   hold = stream.hold.number
 
   -- an open talk
-  module _ (again : Option AgainView) (t : OpenTalk) (l m : LineView) (start : m.start ≡ l.start) (r : Recovers signer source aims qs (at again (Open t) l)) where
+  module _ (again : Option AgainView) (t : OpenTalk) (l m : LineView) (moved : MovedLine l m) (r : Recovers signer source aims qs (at again (Open t) l)) where
     idle_then : IsIdle m.start → SeeksRow l (aims ++ aims_of qs) t.recovery
-    idle_then alone = r.stood.talk.1.talks (subst IsIdle start alone)
+    idle_then alone = r.stood.talk.1.talks (subst IsIdle moved.start alone)
+
+    dialed_then : Dialed m qs
+    dialed_then = dialed_on l m qs moved r.stood.dialed
 
     -- goes on
     pub goes_on : (next : OpenTalk) → GoesOn t next l m → Recovers signer source aims qs (at again (Open next) m)
@@ -124,9 +161,11 @@ module _ (signer : Signer) (source : Option AgainView) (aims : List Aim) (qs : L
           record {
             is = asks_map again (IsOpen signer t) (IsOpen signer next) (λ o is. request_of signer o t next is g.sought g.from g.moment) r.stood.talk.1.is;
             live = g.live;
+            early = g.early;
             talks = λ alone. g.row (aims ++ aims_of qs) (idle_then alone);
           },
         );
+        dialed = dialed_then;
       };
       spec = r.spec;
       spec_is = r.spec_is;
@@ -139,7 +178,14 @@ module _ (signer : Signer) (source : Option AgainView) (aims : List Aim) (qs : L
     quest so = record { moment = t.moment.value; sought = so }
 
     module _ (so : Sought) (sought : so.sought ≡ t.recovery.sought) (next : Option AgainView) (is_next : next ≡ option_map (λ (o : AgainView). after_quest o (quest so)) again)
-        (row : SeeksRow l (aims ++ aims_of qs) t.recovery → LineRow m ((aims ++ aims_of qs) ++ aim_sought so ∷ []) idle) (came : CameTo so.end) where
+        (row : SeeksRow l (aims ++ aims_of qs) t.recovery → LineRow m ((aims ++ aims_of qs) ++ aim_sought so ∷ []) idle) (came : CameTo so.end) (rises : FailedByDial (quest so) → Rose l.dial.faults m.dial.faults) where
+      dialed_all : Dialed m (qs ++ quest so ∷ [])
+      dialed_all = record { later = dialed_then.later; rises = λ q there is. rises_in q is (Contains-append_cases qs (quest so ∷ []) q there) }
+        where
+          rises_in : (q : Quest) → FailedByDial q → Contains qs q ⊎ Contains (quest so ∷ []) q → Rose m.start.faults m.dial.faults
+          rises_in q is (inl before) = dialed_then.rises q before is
+          rises_in q is (inr last) = faults_in l m moved r.stood.dialed.later (rises (subst FailedByDial (one_contained (quest so) q last) is))
+
       after_all : next ≡ option_map (λ (o : AgainView). after_quests o (qs ++ quest so ∷ [])) source
       after_all = is_next ∙ ap (option_map (λ (o : AgainView). after_quest o (quest so))) r.stood.again ∙ sym (again_more source qs (quest so))
 
@@ -178,7 +224,7 @@ module _ (signer : Signer) (source : Option AgainView) (aims : List Aim) (qs : L
       page_on page is short = record {
         more = quest so ∷ [];
         row = record {
-          stood = record { again = after_all; asked = asked_all; ids = ids_all; talk = (untold_all (page_event hold page ∷ []) is, over_all, short) };
+          stood = record { again = after_all; asked = asked_all; ids = ids_all; talk = (untold_all (page_event hold page ∷ []) is, over_all, short); dialed = dialed_all };
           spec = r.spec;
           spec_is = r.spec_is;
           linked = r.linked ∙ sym linked_all;
@@ -191,7 +237,7 @@ module _ (signer : Signer) (source : Option AgainView) (aims : List Aim) (qs : L
       failed_on is = record {
         more = quest so ∷ [];
         row = record {
-          stood = record { again = after_all; asked = asked_all; ids = ids_all; talk = (untold_all (event.PageFailed hold ∷ []) is, over_all) };
+          stood = record { again = after_all; asked = asked_all; ids = ids_all; talk = (untold_all (event.PageFailed hold ∷ []) is, over_all); dialed = dialed_all };
           spec = r.spec;
           spec_is = r.spec_is;
           linked = r.linked ∙ sym linked_all;
@@ -223,6 +269,7 @@ module _ (signer : Signer) (source : Option AgainView) (aims : List Aim) (qs : L
         open_id = Some t.from;
         more = None;
         ids = r.stood.ids;
+        dialed = dialed_then;
       });
       dropped = Some t.moment.value;
       timed = timed_none now (moments_of qs ++ t.moment.value ∷ []) (moments_of (qs ++ []) ++ t.moment.value ∷ []) (ap (λ rs. moments_of rs ++ t.moment.value ∷ []) (append-nil qs));
@@ -240,22 +287,22 @@ module _ (signer : Signer) (source : Option AgainView) (aims : List Aim) (qs : L
   same_again (Some o) q e = ap (λ (x : AgainView). Some x) (sym (e o))
 
   -- what a poll of an open talk did
-  open_on : (again : Option AgainView) (t : OpenTalk) (u : RecoveringView) (l m : LineView) (room : Bool) → room ≡ true → m.start ≡ l.start → Recovers signer source aims qs (behind again (Open t) l)
+  open_on : (again : Option AgainView) (t : OpenTalk) (u : RecoveringView) (l m : LineView) (room : Bool) → room ≡ true → MovedLine l m → Recovers signer source aims qs (behind again (Open t) l)
       → SeeksOpen t (view again (Open t)) u l m room → RecoversOn signer source aims qs now (behind again (Open t) l) (behind u.again u.talk m)
-  open_on again t u l m room holds start r (waits next is asks_is g) =
+  open_on again t u l m room holds moved r (waits next is asks_is g) =
       on_none signer source aims qs now (behind again (Open t) l) (behind u.again u.talk m) (ap moment_open is ∙ ap (λ (x : Snapshot ℕ). x.value ∷ []) g.moment)
-      (subst (λ (x : Talk). Recovers signer source aims qs (behind u.again x m)) (sym is) (subst (λ (a : Option AgainView). Recovers signer source aims qs (behind a (Open next) m)) (sym asks_is) (goes_on signer source aims qs now stream w s again t l m start r next g)))
-  open_on again t u l m room holds start r (got page link is asks_is g) =
+      (subst (λ (x : Talk). Recovers signer source aims qs (behind u.again x m)) (sym is) (subst (λ (a : Option AgainView). Recovers signer source aims qs (behind a (Open next) m)) (sym asks_is) (goes_on signer source aims qs now stream w s again t l m moved r next g)))
+  open_on again t u l m room holds moved r (got page link is asks_is g) =
       let so : Sought = record { sought = t.recovery.sought; at = g.at; end = last.Got g.got } in
       subst (λ (x : Talk). RecoversOn signer source aims qs now (behind again (Open t) l) (behind u.again x m)) (sym is)
-      (page_on signer source aims qs now stream w s again t l m start r so refl u.again (asks_is ∙ ap (λ k. follow k again) g.link_is) (g.row (aims ++ aims_of qs)) tt page
+      (page_on signer source aims qs now stream w s again t l m moved r so refl u.again (asks_is ∙ ap (λ k. follow k again) g.link_is) (g.row (aims ++ aims_of qs)) tt (λ dial. absurd (got_not_failed g.got dial)) page
       (ap (λ f. event.Page stream.hold.number f g.got.value.to g.got.value.bytes g.got.value.then ∷ []) (from_open signer again t r.stood.talk.1.is) ∙ ap (λ p. page_event stream.hold.number p ∷ []) (sym g.page_is))
       (ap (λ p. is_short_page p.bytes) g.page_is ∙ short_answered t.recovery.sought g.got.value g.answered))
-  open_on again t u l m room holds start r (failed is asks_is g) =
+  open_on again t u l m room holds moved r (failed is asks_is g) =
       let so : Sought = record { sought = t.recovery.sought; at = g.at; end = last.Failed g.fault } in
       subst (λ (x : Talk). RecoversOn signer source aims qs now (behind again (Open t) l) (behind u.again x m)) (sym is)
-      (failed_on signer source aims qs now stream w s again t l m start r so refl u.again (asks_is ∙ same_again again (record { moment = t.moment.value; sought = so }) (λ o. refl)) (g.row (aims ++ aims_of qs)) tt refl)
-  open_on again t u l m room holds start r (lost is asks_is g) = absurd (let both : false ≡ true = holds in (cc))
+      (failed_on signer source aims qs now stream w s again t l m moved r so refl u.again (asks_is ∙ same_again again (record { moment = t.moment.value; sought = so }) (λ o. refl)) (g.row (aims ++ aims_of qs)) tt (λ dial. g.rises r.stood.talk.1.early (failed_by g.fault dial)) refl)
+  open_on again t u l m room holds moved r (lost is asks_is g) = absurd (let both : false ≡ true = holds in (cc))
 
   still_on : (again : Option AgainView) (talk : Talk) (u : RecoveringView) (l m : LineView) → Recovers signer source aims qs (behind again talk l) → u.talk ≡ talk → u.again ≡ again → m ≡ l
       → RecoversOn signer source aims qs now (behind again talk l) (behind u.again u.talk m)
@@ -263,30 +310,30 @@ module _ (signer : Signer) (source : Option AgainView) (aims : List Aim) (qs : L
       on_none signer source aims qs now (behind again talk l) (behind u.again u.talk m) (ap moment_open is)
       (subst (λ (x : Talk). Recovers signer source aims qs (behind u.again x m)) (sym is) (subst (λ (a : Option AgainView). Recovers signer source aims qs (behind a talk m)) (sym asks_is) (subst (λ (x : LineView). Recovers signer source aims qs (behind again talk x)) (sym line) r)))
 
-  sought_by : (again : Option AgainView) (talk : Talk) (u : RecoveringView) (l m : LineView) → m.start ≡ l.start → Recovers signer source aims qs (behind again talk l) → SeeksAs talk (view again talk) u l m true
+  sought_by : (again : Option AgainView) (talk : Talk) (u : RecoveringView) (l m : LineView) → MovedLine l m → Recovers signer source aims qs (behind again talk l) → SeeksAs talk (view again talk) u l m true
       → RecoversOn signer source aims qs now (behind again talk l) (behind u.again u.talk m)
-  sought_by again NoTalk u l m start r e = still_on again NoTalk u l m r e.talk e.again e.line
-  sought_by again (Open t) u l m start r e = open_on again t u l m true refl start r e
-  sought_by again (Page page) u l m start r e = still_on again (Page page) u l m r e.talk e.again e.line
-  sought_by again Failed u l m start r e = still_on again Failed u l m r e.talk e.again e.line
+  sought_by again NoTalk u l m moved r e = still_on again NoTalk u l m r e.talk e.again e.line
+  sought_by again (Open t) u l m moved r e = open_on again t u l m true refl moved r e
+  sought_by again (Page page) u l m moved r e = still_on again (Page page) u l m r e.talk e.again e.line
+  sought_by again Failed u l m moved r e = still_on again Failed u l m r e.talk e.again e.line
 
 -- the rows go on behind it
 pub sought_on : (signer : Signer) (now : ℕ) (a : Sides) (u : RecoveringView) (m : LineView) → Seeks a.is u a.line m true → (source : Option AgainView) (aims : List Aim) (qs : List Quest) → Recovers signer source aims qs a
     → RecoversOn signer source aims qs now a (record a { is = u; line = m })
 sought_on signer now a u m e source aims qs r =
     subst (λ (x : StreamView). RecoversOn signer source aims qs now a (record { is = record { stream = x; again = u.again; talk = u.talk }; wire = a.wire; line = m; seat = a.seat })) (sym e.stream)
-    (sought_by signer source aims qs now a.is.stream a.wire a.seat a.is.again a.is.talk u a.line m e.moved.start r e.says)
+    (sought_by signer source aims qs now a.is.stream a.wire a.seat a.is.again a.is.talk u a.line m e.moved r e.says)
 
-lost_by : (signer : Signer) (source : Option AgainView) (aims : List Aim) (qs : List Quest) (now : ℕ) (stream : StreamView) (w : WireView) (s : SeatView) (again : Option AgainView) (talk : Talk) (u : RecoveringView) (l m : LineView) (room : Bool) → room ≡ false → m.start ≡ l.start
+lost_by : (signer : Signer) (source : Option AgainView) (aims : List Aim) (qs : List Quest) (now : ℕ) (stream : StreamView) (w : WireView) (s : SeatView) (again : Option AgainView) (talk : Talk) (u : RecoveringView) (l m : LineView) (room : Bool) → room ≡ false → MovedLine l m
     → Recovers signer source aims qs (record { is = record { stream = stream; again = again; talk = talk }; wire = w; line = l; seat = s }) → SeeksAs talk (record { stream = stream; again = again; talk = talk }) u l m room
     → ClosedOn signer source aims qs now (record { is = record { stream = stream; again = again; talk = talk }; wire = w; line = l; seat = s }) (record { is = record { stream = stream; again = u.again; talk = NoTalk }; wire = w; line = m; seat = s })
-lost_by signer source aims qs now stream w s again NoTalk u l m room never start r e = absurd (let both : false ≡ true = sym never ∙ e.room_is in (cc))
-lost_by signer source aims qs now stream w s again (Page page) u l m room never start r e = absurd (let both : false ≡ true = sym never ∙ e.room_is in (cc))
-lost_by signer source aims qs now stream w s again Failed u l m room never start r e = absurd (let both : false ≡ true = sym never ∙ e.room_is in (cc))
-lost_by signer source aims qs now stream w s again (Open t) u l m room never start r (waits next is asks_is g) = absurd (let both : true ≡ false = never in (cc))
-lost_by signer source aims qs now stream w s again (Open t) u l m room never start r (got page link is asks_is g) = absurd (let both : true ≡ false = never in (cc))
-lost_by signer source aims qs now stream w s again (Open t) u l m room never start r (failed is asks_is g) = absurd (let both : true ≡ false = never in (cc))
-lost_by signer source aims qs now stream w s again (Open t) u l m room never start r (lost is asks_is g) = lost_on signer source aims qs now stream w s again t l m start r u.again g
+lost_by signer source aims qs now stream w s again NoTalk u l m room never moved r e = absurd (let both : false ≡ true = sym never ∙ e.room_is in (cc))
+lost_by signer source aims qs now stream w s again (Page page) u l m room never moved r e = absurd (let both : false ≡ true = sym never ∙ e.room_is in (cc))
+lost_by signer source aims qs now stream w s again Failed u l m room never moved r e = absurd (let both : false ≡ true = sym never ∙ e.room_is in (cc))
+lost_by signer source aims qs now stream w s again (Open t) u l m room never moved r (waits next is asks_is g) = absurd (let both : true ≡ false = never in (cc))
+lost_by signer source aims qs now stream w s again (Open t) u l m room never moved r (got page link is asks_is g) = absurd (let both : true ≡ false = never in (cc))
+lost_by signer source aims qs now stream w s again (Open t) u l m room never moved r (failed is asks_is g) = absurd (let both : true ≡ false = never in (cc))
+lost_by signer source aims qs now stream w s again (Open t) u l m room never moved r (lost is asks_is g) = lost_on signer source aims qs now stream w s again t l m moved r u.again g
 
 closed_at : (signer : Signer) (source : Option AgainView) (aims : List Aim) (qs : List Quest) (now : ℕ) (a b c : Sides) → hold_of c ≡ hold_of b → c.line ≡ b.line → c.seat ≡ b.seat → ClosedOn signer source aims qs now a b → ClosedOn signer source aims qs now a c
 closed_at signer source aims qs now a b c hold line seat o = record {
@@ -301,4 +348,4 @@ pub sought_lost : (signer : Signer) (now : ℕ) (a : Sides) (u : RecoveringView)
     → ClosedOn signer source aims qs now a (record a { is = u; line = m })
 sought_lost signer now a u m e source aims qs r =
     closed_at signer source aims qs now a (record { is = record { stream = a.is.stream; again = u.again; talk = NoTalk }; wire = a.wire; line = m; seat = a.seat }) (record a { is = u; line = m }) (ap (λ (v : StreamView). v.hold.number) e.stream) refl refl
-    (lost_by signer source aims qs now a.is.stream a.wire a.seat a.is.again a.is.talk u a.line m false refl e.moved.start r e.says)
+    (lost_by signer source aims qs now a.is.stream a.wire a.seat a.is.again a.is.talk u a.line m false refl e.moved r e.says)

@@ -1,5 +1,5 @@
 -- What is settled of a talk, and one turn behind it.
-use Rattle.std.proofs.Common.{◌≡◌, ◌≢◌, ℕ, ◌+◌, ◌≤◌, Bool, true, false, List, [], ◌∷◌, ◌++◌, refl, sym, ap, ◌∙◌, subst, append_assoc, append-nil, Option, Some, None, option_map, is_some, arith}
+use Rattle.std.proofs.Common.{◌≡◌, ◌<◌, ◌≢◌, ℕ, ◌+◌, ◌≤◌, Bool, true, false, List, [], ◌∷◌, ◌++◌, refl, sym, ap, ◌∙◌, subst, append_assoc, append-nil, Option, Some, None, option_map, is_some, arith}
 use Rattle.std.specs.Option.{option_to_list}
 use Rattle.std.proofs.lemmas.List.Elements.{All-nil, All-push}
 use Rattle.gp_outside.specs.Counts.{Rose}
@@ -300,7 +300,7 @@ module _ (signer : Signer) (now : ℕ) (v u : StreamView) (again : Option AgainV
       closed = λ source aims qs r.
           shut_on signer source aims qs qs now (TurnSides v again talk w l s) (TurnSides u again talk x l t) (ended_at u) more
           (stood_turned signer source aims qs v u again talk w x l s t more d.goes.number d.goes.pages misses r.stood) [] (sym (append-nil qs))
-          (timed_none now (moments_at qs (TurnSides v again talk w l s)) (moments_at qs (TurnSides u again talk x l t)) refl) refl refl moved.start closes;
+          (timed_none now (moments_at qs (TurnSides v again talk w l s)) (moments_at qs (TurnSides u again talk x l t)) refl) refl refl moved closes;
       says = says_of end says;
     })
 
@@ -343,6 +343,9 @@ seeks_begun l aims s (stage.Reading reading) kept_is live is row = absurd (let f
 seeks_begun l aims s (stage.Over ending) kept_is live is row = absurd live
 seeks_begun l aims s stage.Lost kept_is live is row = absurd live
 
+early_unbegun : {request : List ℕ} (p : Place) → p ≡ place.Unbegun request → rank p < 5
+early_unbegun p is = let none = ap rank is in omega (arith, none)
+
 module _ (signer : Signer) (now : ℕ) (v u : StreamView) (again : Option AgainView) (w x : WireView) (l : LineView) (s t : SeatView) (from : List ℕ) (d : Delivers v u w x s t now (streamed.Missing from)) (asked : AgainView) (is_asked : again ≡ Some asked)
     (talk : OpenTalk) (from_is : talk.from ≡ from) (moment : talk.moment.value ≡ now) (quest : IsQuest asked signer now from talk.recovery) where
   is_open : IsOpen signer talk asked
@@ -366,9 +369,11 @@ module _ (signer : Signer) (now : ℕ) (v u : StreamView) (again : Option AgainV
             record {
               is = subst (λ (o : Option AgainView). AsksOf o (IsOpen signer talk)) (sym is_asked) is_open;
               live = quest.live;
+              early = early_unbegun (place_of talk.recovery) quest.unbegun;
               talks = λ alone. seeks_begun l (aims ++ aims_of qs) talk.recovery.sought talk.recovery.stage quest.kept quest.live quest.unbegun (stood.talk.1 alone);
             },
           );
+          dialed = stood.dialed;
         };
         spec = r.spec;
         spec_is = ap (spec_at t) d.goes.number ∙ d.goes.spec ∙ r.spec_is;

@@ -84,7 +84,7 @@ module _ (signer : Signer) (now : ℕ) (stream : StreamView) (again : Option Aga
     closed_met : (talk next : Talk) → ClosesAs talk l l → (source : Option AgainView) (aims : List Aim) (qs : List Quest) → Recovers signer source aims qs (at talk s) → ClosedOn signer source aims qs now (at talk s) (at next t)
     closed_met talk next closes source aims qs r =
         shut_on signer source aims qs qs now (at talk s) (at talk t) (at next t) None (recovers_met talk source aims qs r).stood [] (sym (append-nil qs))
-        (timed_none now (moments_at qs (at talk s)) (moments_at qs (at talk t)) refl) refl refl refl closes
+        (timed_none now (moments_at qs (at talk s)) (moments_at qs (at talk t)) refl) refl refl (moved_line_same l) closes
 
     pub halts_worn : (talk next : Talk) → ClosesAs talk l l → IsWorn t → Halts signer now (at talk s) (at next t) polled.Worn
     halts_worn talk next closes worn = record {
@@ -140,6 +140,7 @@ module _ (signer : Signer) (now : ℕ) (stream : StreamView) (again : Option Aga
         asked = r.stood.asked;
         ids = ap (λ (o : Option Share). option_map_or (λ (share : Share). share.recovers) o []) share_is ∙ r.stood.ids ∙ ap (λ xs. ids_of qs ++ (xs ++ [])) none;
         talk = (pages_told qs untold, over);
+        dialed = r.stood.dialed;
       };
       spec = r.spec;
       spec_is = ap (option_map (λ (share : Share). share.spec)) share_is ∙ r.spec_is;

@@ -155,6 +155,7 @@ module _ (signer : Signer) (source : Option AgainView) (aims : List Aim) (qs : L
     asked = r.asked;
     ids = ap (recovers_at t) number ∙ misses ∙ ap (λ xs. xs ++ option_to_list more) (r.ids ∙ ap (λ xs. ids_of qs ++ xs) (append-nil (id_open talk))) ∙ append_assoc (ids_of qs) (id_open talk) (option_to_list more);
     talk = subst (λ (n : ℕ). TalkRow signer again l t n aims qs talk) (sym number) (talk_turned signer source aims qs again l s t v.hold.number pages talk r.talk);
+    dialed = r.dialed;
   }
 
   pub recovers_turned : more ≡ None → spec_at t v.hold.number ≡ spec_at s v.hold.number → (IsTalking talk → IsAsking s.pass v.hold.number → IsAsking t.pass v.hold.number) → Recovers signer source aims qs was → Recovers signer source aims qs is

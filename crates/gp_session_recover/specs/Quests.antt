@@ -4,6 +4,8 @@ use Rattle.std.specs.List.{flat_map}
 use Rattle.gp_plain.specs.declared.event.Event.{Event}
 use Rattle.gp_plain.specs.declared.event.Event.TheVariants.{Page, PageFailed}
 use Rattle.gp_plain.specs.declared.http.Signer.{Signer}
+use Rattle.gp_exchange.specs.declared.answer.ExchangeFault.TheVariants.{Dial}
+use Rattle.gp_recover.specs.declared.page.PageFault.TheVariants.{Exchange}
 use Rattle.gp_recover.specs.declared.recovered.Last.{Last as RecoveryEnd}
 use Rattle.gp_recover.specs.declared.recovered.Last.TheVariants.{Got, Failed, NoMemory}
 use Rattle.gp_again.specs.Quests.{Asks}
@@ -57,6 +59,10 @@ abbrev pub event_by : ℕ → List ℕ → RecoveryEnd → List Event
 event_by hold from (Got page) = Page hold from page.value.to page.value.bytes page.value.then ∷ []
 event_by hold from (Failed fault) = PageFailed hold ∷ []
 event_by hold from NoMemory = []
+
+-- its talk failed since the dialer did
+abbrev pub FailedByDial : Quest → Type 0
+FailedByDial q = q.sought.end ≡ Failed (Exchange Dial)
 
 abbrev pub event_of : ℕ → Quest → List Event
 event_of hold q = event_by hold q.sought.sought.from q.sought.end

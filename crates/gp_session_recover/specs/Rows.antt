@@ -1,14 +1,17 @@
 -- What a stream says of its recoveries, and what its moves do to that.
-use Rattle.std.specs.Prelude.{ℕ, ◌≡◌, Bool, true, false, List, [], ◌∷◌, ◌++◌, All, Option, Some, None, IfSome, is_some, option_map, unwrap_or, ⊤}
+use Rattle.std.specs.Prelude.{ℕ, ◌≡◌, ◌<◌, Bool, true, false, List, [], ◌∷◌, ◌++◌, All, Option, Some, None, IfSome, is_some, option_map, unwrap_or, ⊤}
 use Rattle.std.specs.Option.{option_to_list}
+use Rattle.std.specs.List.{Contains}
 use Rattle.gp_plain.specs.declared.event.Event.{Event}
 use Rattle.gp_plain.specs.declared.event.Event.TheVariants.{PageFailed}
 use Rattle.gp_plain.specs.declared.event.HoldSpec.{HoldSpec}
 use Rattle.gp_plain.specs.declared.http.Signer.{Signer}
 use Rattle.gp_plain.specs.Fit.{is_short_page}
 use Rattle.gp_plain.specs.Holds.{terms_of}
-use Rattle.gp_outside.specs.Dials.{IsIdle}
-use Rattle.gp_recover.specs.Views.{IsLive}
+use Rattle.gp_outside.specs.Counts.{Rose}
+use Rattle.gp_outside.specs.Dials.{DialLater, IsIdle}
+use Rattle.gp_exchange.specs.Answers.{rank}
+use Rattle.gp_recover.specs.Views.{IsLive, place_of}
 use Rattle.gp_again.specs.Quests.{Asks, IsQuest}
 use Rattle.gp_again.specs.Views.{AgainView}
 use Rattle.gp_asking.specs.Asking.{IsAsking}
@@ -20,7 +23,7 @@ use Rattle.gp_session.specs.Wires.{WireView}
 use Rattle.gp_session.specs.declared.paging.StreamPage.{StreamPage}
 use Rattle.gp_session_hold.specs.Rows.{PagesRow, recovers_at, spec_at}
 use Rattle.gp_session_hold.specs.Streams.{StreamView, Streams}
-use Rattle.gp_session_recover.specs.Quests.{AreAsked, Quest, after_quests, aims_of, event_of, events_of, ids_of, moments_of}
+use Rattle.gp_session_recover.specs.Quests.{AreAsked, FailedByDial, Quest, after_quests, aims_of, event_of, events_of, ids_of, moments_of}
 use Rattle.gp_session_recover.specs.Talks.{FailedPage, GoesOn, GotPage, IsTalkOf, LostPage}
 use Rattle.gp_session_recover.specs.declared.open.Open.{Open as OpenTalk}
 use Rattle.gp_session_recover.specs.declared.talk.Talk.{Talk}
@@ -63,6 +66,7 @@ pub record IsOpen (signer : Signer) (t : OpenTalk) (o : AgainView) : Type 0 wher
 pub record OpenRow (signer : Signer) (again : Option AgainView) (l : LineView) (aims : List Aim) (t : OpenTalk) : Type 0 where
   pub is : AsksOf again (IsOpen signer t)
   pub live : IsLive t.recovery.stage
+  pub early : rank (place_of t.recovery) < 5
   pub talks : IsIdle l.start → SeeksRow l aims t.recovery
 
 -- the last quest is over, and the hub wasn't told of it yet
@@ -82,6 +86,11 @@ TalkRow signer again l s hold aims qs NoTalk = PagesRow s (events_of hold qs) ×
 TalkRow signer again l s hold aims qs (Open t) = PagesRow s (events_of hold qs) × OpenRow signer again l (aims ++ aims_of qs) t
 TalkRow signer again l s hold aims qs (Page page) = UntoldRow s hold qs (page_event hold page ∷ []) × IsOver l aims qs × (is_short_page page.bytes ≡ true)
 TalkRow signer again l s hold aims qs Failed = UntoldRow s hold qs (PageFailed hold ∷ []) × IsOver l aims qs
+
+-- no talk of theirs failed by the dialer, or its faults rose since the session began
+pub record Dialed (l : LineView) (qs : List Quest) : Type 0 where
+  pub later : DialLater l.start l.dial
+  pub rises : (q : Quest) → Contains qs q → FailedByDial q → Rose l.start.faults l.dial.faults
 
 -- the id behind which a page is asked for, and the moment of the token
 abbrev pub id_open : Talk → List (List ℕ)
@@ -109,6 +118,7 @@ pub record Stood (signer : Signer) (source : Option AgainView) (aims : List Aim)
   pub asked : AreAsked signer source qs
   pub ids : recovers_at a.seat (hold_of a) ≡ ids_of qs ++ (id_open a.is.talk ++ option_to_list more)
   pub talk : TalkRow signer a.is.again a.line a.seat (hold_of a) aims qs a.is.talk
+  pub dialed : Dialed a.line qs
 
 -- Rows: the recoveries, while the stream goes on
 pub record Recovers (signer : Signer) (source : Option AgainView) (aims : List Aim) (qs : List Quest) (a : Sides) : Type 0 where
@@ -146,6 +156,7 @@ pub record Closed (signer : Signer) (source : Option AgainView) (aims : List Aim
   pub open_id : Option (List ℕ)
   pub more : Option (List ℕ)
   pub ids : recovers_at s hold ≡ ids_of qs ++ (option_to_list open_id ++ option_to_list more)
+  pub dialed : Dialed l qs
 
 -- ---- what moves do
 

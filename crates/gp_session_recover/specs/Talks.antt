@@ -1,13 +1,16 @@
 -- What a poll of a talk comes to in which a stream asks for a page.
-use Rattle.std.specs.Prelude.{ℕ, ◌≡◌, List, [], ◌∷◌, ◌++◌, Option, IfSome}
+use Rattle.std.specs.Prelude.{ℕ, ◌≡◌, ◌<◌, List, [], ◌∷◌, ◌++◌, Option, IfSome}
 use Rattle.std.specs.Option.{option_to_list}
 use Rattle.std.specs.declared.snapshot.Snapshot.{Snapshot}
-use Rattle.gp_exchange.specs.Answers.{Waits}
+use Rattle.gp_exchange.specs.Answers.{Waits, rank}
+use Rattle.gp_exchange.specs.declared.answer.ExchangeFault.TheVariants.{Dial}
+use Rattle.gp_outside.specs.Counts.{Rose}
 use Rattle.gp_exchange.specs.declared.place.Place.{Place}
 use Rattle.gp_recover.specs.Moves.{IsAnswered}
 use Rattle.gp_recover.specs.Views.{IsLive, SoughtView, place_of}
 use Rattle.gp_recover.specs.declared.page.Page.{Page}
 use Rattle.gp_recover.specs.declared.page.PageFault.{PageFault}
+use Rattle.gp_recover.specs.declared.page.PageFault.TheVariants.{Exchange}
 use Rattle.gp_recover.specs.declared.recovered.Last.TheVariants as last
 use Rattle.gp_session.specs.Lines.{Aim, LineRow, LineView, MovedLine, Sought, aim_sought, idle}
 use Rattle.gp_session.specs.Seeking.{SeeksRow}
@@ -22,6 +25,7 @@ pub record GoesOn (t u : Open) (l m : LineView) : Type 0 where
   pub from : u.from ≡ t.from
   pub moment : u.moment ≡ t.moment
   pub live : IsLive u.recovery.stage
+  pub early : rank (place_of u.recovery) < 5
   pub waits : Waits (place_of u.recovery) l.dial m.dial
   pub row : (aims : List Aim) → SeeksRow l aims t.recovery → SeeksRow m aims u.recovery
 
@@ -34,10 +38,11 @@ pub record GotPage (t : Open) (l m : LineView) (page : StreamPage) (link : Optio
   pub answered : IsAnswered t.recovery.sought got.value
   pub row : (aims : List Aim) → SeeksRow l aims t.recovery → LineRow m (aims ++ aim_sought (record { sought = t.recovery.sought; at = at; end = last.Got got }) ∷ []) idle
 
--- it is over, and there is no page
+-- it is over, and there is no page. A fault of the dialer comes only where its faults rose
 pub record FailedPage (t : Open) (l m : LineView) : Type 0 where
   pub at : Place
   pub fault : PageFault
+  pub rises : rank (place_of t.recovery) < 5 → fault ≡ Exchange Dial → Rose l.dial.faults m.dial.faults
   pub row : (aims : List Aim) → SeeksRow l aims t.recovery → LineRow m (aims ++ aim_sought (record { sought = t.recovery.sought; at = at; end = last.Failed fault }) ∷ []) idle
 
 -- a talk in which this was asked for

@@ -27,7 +27,7 @@ waits_heard v w y s h l x = record { polls = x.polls; form = x.form; bytes = sen
 pub gone_heard : (v : WaitView) (w y : WireView) (s : SeatView) (now : ℕ) → Listens w y heard.Gone → Waits v w s → PollsWait v w y s s now (polled.Gone v.hold)
 gone_heard v w y s now l x = record {
   number = refl;
-  wire = moved_heard w y l.heard_is.more l.start l.heard_is.hears;
+  wire = moved_heard w y l.heard_is.more l.start l.rest l.heard_is.hears;
   heard = l.heard_is.more;
   received = l.heard_is.hears.received;
   times = record { more = []; all = sym (append-nil (mine s.pass)); takes = All-nil (λ (entry : Entry). entry.event ≡ Take v.hold.number now) };
@@ -65,7 +65,7 @@ no_rest (x ∷ sent) rest e = absurd cc
 
 module _ (v : WaitView) (w y x : WireView) (s t : SeatView) (now : ℕ) (h : Heard) (l : Listens w y h) (went : Went w y l.heard_is.more) where
   wire : MovedWire w y
-  wire = moved_heard w y l.heard_is.more l.start l.heard_is.hears
+  wire = moved_heard w y l.heard_is.more l.start l.rest l.heard_is.hears
 
   read_on : x.link ≡ y.link → ReadWaited w y → ReadWaited w x
   read_on link r = subst (λ (k : LinkTells). Rose w.link.read_waits k.read_waits) (sym link) r
@@ -89,9 +89,9 @@ module _ (v : WaitView) (w y x : WireView) (s t : SeatView) (now : ℕ) (h : Hea
   pub looked : (answer : Polled) → Looks v y x s t now answer → PollsWait v w x s t now answer
   looked answer d = record {
     number = d.number;
-    wire = moved_wire_again w y x wire (moved_put y x d.start d.link);
+    wire = moved_wire_again w y x wire (moved_put y x d.more d.puts.start d.puts.link d.puts.rest);
     heard = l.heard_is.more;
-    received = ap (λ (k : LinkTells). k.received) d.link ∙ l.heard_is.hears.received;
+    received = ap (λ (k : LinkTells). k.received) d.puts.link ∙ l.heard_is.hears.received;
     times = d.times;
     seat = d.seat;
     row = d.row;
@@ -99,5 +99,5 @@ module _ (v : WaitView) (w y x : WireView) (s t : SeatView) (now : ℕ) (h : Hea
     attaches = d.attaches;
     holds = d.holds;
     serves = d.serves;
-    says = says_by answer d.link d.says;
+    says = says_by answer d.puts.link d.says;
   }

@@ -1,5 +1,5 @@
 -- What becomes of a long poll whose Takes came to something.
-use Rattle.std.proofs.Common.{◌≡◌, ℕ, ◌<◌, true, List, [], refl, sym, ap, ◌∙◌, subst, Some, is_some, inl, inr}
+use Rattle.std.proofs.Common.{◌≡◌, ℕ, ◌<◌, true, List, [], refl, sym, ap, ◌∙◌, subst, Some, is_some, inl, inr, append-nil}
 use Rattle.gp_plain.specs.Kinds.{may_end}
 use Rattle.gp_plain.specs.declared.event.HoldSpec.{HoldSpec}
 use Rattle.gp_plain.specs.declared.reply.EndCause.TheVariants as cause
@@ -22,17 +22,21 @@ use Rattle.gp_session_wait.specs.declared.seeking.End.TheVariants as end
 use Rattle.gp_session_wait.specs.declared.seeking.Sought.{Sought}
 use Rattle.gp_session_wait.specs.declared.seeking.Sought.TheVariants as sought
 
+-- no bytes were put
+puts_none : (w : WireView) → PutsBehind w w []
+puts_none w = record { start = refl; link = refl; rest = sym (append-nil w.rest) }
+
 -- the long poll behind its Takes
 abbrev pub behind : WaitView → PollView → WaitView
 behind v u = record { hold = u.hold; spec = u.spec; own = v.own; channel = v.channel; repeats = v.repeats }
 
 module _ (v : WaitView) (u : PollView) (w x : WireView) (s t : SeatView) (now : ℕ) (waits : Waits v w s) where
   looks_by : (answer : Sought) → Seeks (poll_of v) u s t now answer → (result : Polled) → hold_of result ≡ u.hold → last_polled result ≡ last_sought u.hold answer → PolledServes s t result
-      → x.start ≡ w.start → x.link ≡ w.link → SaysOf v x t (Looking v x s t now) ⊥ result → Looks v w x s t now result
-  looks_by answer d result hold last serves start link says = record {
+      → (more : List ℕ) → PutsBehind w x more → SaysOf v x t (Looking v x s t now) ⊥ result → Looks v w x s t now result
+  looks_by answer d result hold last serves more puts says = record {
     number = ap (λ (h : KeptView). h.number) hold ∙ d.goes.number;
-    start = start;
-    link = link;
+    more = more;
+    puts = puts;
     times = d.goes.times;
     seat = d.goes.seat;
     row = d.goes.row;
@@ -58,7 +62,7 @@ module _ (v : WaitView) (u : PollView) (w x : WireView) (s t : SeatView) (now : 
   answers_by : (told : End) (d : Seeks (poll_of v) u s t now (sought.Ended told)) (answer : Answer) (result : Polled) → IsChosen v (cause_of told) d.says.share answer
       → AnswersAs w x u.hold (cause_of told) answer result → Looks v w x s t now result
   answers_by told d answer result chosen (inl p) =
-      subst (Looks v w x s t now) (sym p.0) (looks_by (sought.Ended told) d (polled.Answered u.hold (cause_of told) answer.code) refl refl d.serves p.1.start p.1.link (record {
+      subst (Looks v w x s t now) (sym p.0) (looks_by (sought.Ended told) d (polled.Answered u.hold (cause_of told) answer.code) refl refl d.serves (answer_text answer) p.1 (record {
         share = d.says.share;
         ended = has_ended told d;
         answer = answer;
@@ -67,7 +71,7 @@ module _ (v : WaitView) (u : PollView) (w x : WireView) (s t : SeatView) (now : 
         bytes = put_all (answer_text answer) p.1;
       }))
   answers_by told d answer result chosen (inr p) =
-      subst (Looks v w x s t now) (sym p.0) (looks_by (sought.Ended told) d (polled.Unput u.hold (cause_of told)) refl refl d.serves p.1.start p.1.link (record {
+      subst (Looks v w x s t now) (sym p.0) (looks_by (sought.Ended told) d (polled.Unput u.hold (cause_of told)) refl refl d.serves [] p.1 (record {
         share = d.says.share;
         ended = has_ended told d;
         answer = answer;
@@ -78,14 +82,11 @@ module _ (v : WaitView) (u : PollView) (w x : WireView) (s t : SeatView) (now : 
   same_sent : x ≡ w → Sent x []
   same_sent e = subst (λ (y : WireView). Sent y []) (sym e) waits.bytes
 
-  same_start : x ≡ w → x.start ≡ w.start
-  same_start e = ap (λ (y : WireView). y.start) e
-
-  same_link : x ≡ w → x.link ≡ w.link
-  same_link e = ap (λ (y : WireView). y.link) e
+  same_put : x ≡ w → PutsBehind w x []
+  same_put e = subst (λ (y : WireView). PutsBehind w y []) (sym e) (puts_none w)
 
   repeats_by : (id : List ℕ) (d : Seeks (poll_of v) u s t now (sought.Ended (end.Retry id))) (r : Repeat) → v.repeats < most_repeats → x ≡ w → IsRepeatOf (behind v u) id r → Looks v w x s t now (polled.Retry r)
-  repeats_by id d r few same is = looks_by (sought.Ended (end.Retry id)) d (polled.Retry r) is.hold (ap (λ (h : KeptView). over h (Some cause.Retry)) is.hold) d.serves (same_start same) (same_link same) (record {
+  repeats_by id d r few same is = looks_by (sought.Ended (end.Retry id)) d (polled.Retry r) is.hold (ap (λ (h : KeptView). over h (Some cause.Retry)) is.hold) d.serves [] (same_put same) (record {
     share = d.says.share;
     ended = subst (λ (h : KeptView). HasEnded v t h cause.Retry d.says.share) (sym is.hold) (has_ended (end.Retry id) d);
     few = few;
@@ -101,7 +102,7 @@ module _ (v : WaitView) (u : PollView) (w x : WireView) (s t : SeatView) (now : 
   looked_end (end.Retry id) result d (inl r) = subst (Looks v w x s t now) (sym r.2.1) (repeats_by id d r.2.0 r.0 r.1 r.2.2)
   looked_end (end.Retry id) result d (inr r) = answers_by (end.Retry id) d v.own result (r.0, refl) r.1
   looked_end end.Overflow result d e =
-      subst (Looks v w x s t now) (sym e.0) (looks_by (sought.Ended end.Overflow) d (polled.Overflow u.hold) refl refl d.serves (same_start e.1) (same_link e.1) (record {
+      subst (Looks v w x s t now) (sym e.0) (looks_by (sought.Ended end.Overflow) d (polled.Overflow u.hold) refl refl d.serves [] (same_put e.1) (record {
         share = d.says.share;
         ended = has_ended end.Overflow d;
         bytes = same_sent e.1;
@@ -142,7 +143,7 @@ module _ (v : WaitView) (u : PollView) (w x : WireView) (s t : SeatView) (now : 
 module _ (v : WaitView) (u : PollView) (w : WireView) (s t : SeatView) (now : ℕ) (waits : Waits v w s) where
   pauses_by : (answer : Sought) (d : Seeks (poll_of v) u s t now answer) → Polls u t → last_sought u.hold answer ≡ kept u.hold → (IsServed s → IsServed t) → Pauses v.hold.number now s t
       → Looks v w w s t now (polled.Waits (behind v u))
-  pauses_by answer d p last free pauses = looks_by v u w w s t now waits answer d (polled.Waits (behind v u)) refl (sym last) free refl refl (record {
+  pauses_by answer d p last free pauses = looks_by v u w w s t now waits answer d (polled.Waits (behind v u)) refl (sym last) free [] (puts_none w) (record {
     same = same_wait v u w w s t now waits answer d;
     waits = still_waits v u w w s t now waits answer d p;
     pauses = pauses;
@@ -161,7 +162,7 @@ module _ (v : WaitView) (u : PollView) (w : WireView) (s t : SeatView) (now : �
   still_kept answer d p = record { share = p.share; is = p.is; spec_is = p.spec_is ∙ d.goes.spec; bytes = waits.bytes }
 
   pub looked_worn : Seeks (poll_of v) u s t now sought.Worn → Looks v w w s t now (polled.Worn u.hold)
-  looked_worn d = looks_by v u w w s t now waits sought.Worn d (polled.Worn u.hold) refl refl d.serves refl refl (still_kept sought.Worn d d.says)
+  looked_worn d = looks_by v u w w s t now waits sought.Worn d (polled.Worn u.hold) refl refl d.serves [] (puts_none w) (still_kept sought.Worn d d.says)
 
   pub looked_wanting : Seeks (poll_of v) u s t now sought.NoMemory → Looks v w w s t now (polled.NoMemory u.hold)
-  looked_wanting d = looks_by v u w w s t now waits sought.NoMemory d (polled.NoMemory u.hold) refl refl d.serves refl refl (still_kept sought.NoMemory d d.says)
+  looked_wanting d = looks_by v u w w s t now waits sought.NoMemory d (polled.NoMemory u.hold) refl refl d.serves [] (puts_none w) (still_kept sought.NoMemory d d.says)

@@ -238,8 +238,8 @@ pub record Looking (v : WaitView) (x : WireView) (s t : SeatView) (now : ℕ) (u
 -- the Takes of a poll, and what became of them
 pub record Looks (v : WaitView) (w x : WireView) (s t : SeatView) (now : ℕ) (answer : Polled) : Type 0 where
   pub number : (hold_of answer).number ≡ v.hold.number
-  pub start : x.start ≡ w.start
-  pub link : x.link ≡ w.link
+  pub more : List ℕ
+  pub puts : PutsBehind w x more
   pub times : TakesAt v.hold.number now s t
   pub seat : MovedSeat s t
   pub row : SeatRow s → SeatRow t

@@ -16,4 +16,5 @@ returns g c =
         moved = reported_went v q;
         to = (answers_told v q c.args.poll c.args.hold c.args.cause c.args.code h (c.report.ensures.row v.seat h.over.holds) c.report.ensures.reported _ c.of-said.ensures, omega arith, tt);
       });
+      on = tt;
     }

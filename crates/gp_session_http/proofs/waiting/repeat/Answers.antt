@@ -1,7 +1,7 @@
 use Rattle.std.proofs.Common.{sym, subst, refl, ◌∙◌}
 use Rattle.gp_session_http.specs.LongPolls.{HasRepeated}
 use Rattle.gp_session_http.specs.Views.{LiveView}
-use Rattle.gp_session_http.proofs.Granting.{held_live, held_is}
+use Rattle.gp_session_http.proofs.Granting.{held_live, held_is, onward_is}
 use Rattle.gp_session_http.proofs.Awaiting.{asked_again_is, asks_again, repeats, repeats_not}
 use Rattle.gp_session_http.proofs.waiting.repeat.Goals as goal
 use Rattle.gp_session_http.proofs.waiting.repeat.Goals.{in-Ok, in-Err}
@@ -25,4 +25,8 @@ returns g c =
             (record { asked_is = refl; begins = w.in-Ok.ensures.begins }))
         | in-Err w ↦ held_is v _ 4 _ _ w.result-is (repeats_not v c.args.poll c.args.again c.args.repeated h q c.report.ensures.reported (c.report.ensures.row v.seat h.over.holds) m.new.self m.result m.ensures.uses m.ensures.row w.end_with.result w.end_with.ensures)
       ]);
+      on = elim c.match-new.branch [
+        | in-Ok w ↦ onward_is _ _ w.result-is tt
+        | in-Err w ↦ onward_is _ _ w.result-is tt
+      ];
     }

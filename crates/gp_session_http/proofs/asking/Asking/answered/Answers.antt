@@ -27,7 +27,7 @@ fail-requires g c =
         parts = [];
         cut = no_parts;
         rows = polled v l s.asked s.exchange s.exchange (speaking (said s.exchange [])) (hung (said s.exchange [])) [] e.moved refl (λ aims. e.row aims []) told.rows;
-        fails = inl (record { head = c.args.head; given = told.has.head_is; get = refused.0; refused = refused.1 });
+        fails = inl (record { head = c.args.head; reading = told.has.reading; given = told.has.head_is; get = refused.0; refused = refused.1 });
       };
     }
 

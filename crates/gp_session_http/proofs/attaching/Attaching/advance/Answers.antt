@@ -3,6 +3,7 @@ use Rattle.gp_session_http.specs.Turns.{specs_before}
 use Rattle.gp_session_http.specs.Holding.{AttachingTold}
 use Rattle.gp_session_http.specs.Views.{LiveView}
 use Rattle.gp_session_http.proofs.Granting.{held_live, held_from, with_held, goes_on}
+use Rattle.gp_session_http.proofs.Rows.{watch_same}
 use Rattle.gp_session.proofs.Moving.{moved_wire_same}
 use Rattle.gp_session_http.proofs.Keeping.{attached, declined, still_busy, attach_worn, attach_wants}
 use Rattle.gp_session_http.proofs.attaching.Attaching.advance.Goals as goal
@@ -19,7 +20,7 @@ pub returns-in-Kept : goal.returns-in-Kept
 returns-in-Kept g c =
     let v : LiveView = record { wire = c.live.inside.wire; line = c.live.inside.line; watch = c.live.inside.watch; seat = c.live.inside.seat; charter = record { rules = c.live.inside.routes.now; signer = c.live.inside.signer.now; tag = c.live.inside.tag }; reports = c.live.inside.reports } in
     let e = c.in-Kept.ensures in
-    record { leads = held_live v c.args.live.now _ 3 _ c.live.view_is (held_from v (with_held v v.wire v.watch c.attach.new.seat c.attach.new.reports) _ 3 3 _ (goes_on v v.wire v.watch c.attach.new.seat c.attach.new.reports (moved_wire_same v.wire) refl e.moved) e.items (omega arith) c.begin.ensures.leads) }
+    record { leads = held_live v c.args.live.now _ 3 _ c.live.view_is (held_from v (with_held v v.wire v.watch c.attach.new.seat c.attach.new.reports) _ 3 3 _ (goes_on v v.wire v.watch c.attach.new.seat c.attach.new.reports (moved_wire_same v.wire) (watch_same v.watch) e.moved) e.items (omega arith) c.begin.ensures.leads) }
 
 pub decline-requires : goal.decline-requires
 decline-requires g c =
@@ -33,7 +34,7 @@ pub returns-in-Full : goal.returns-in-Full
 returns-in-Full g c =
     let v : LiveView = record { wire = c.live.inside.wire; line = c.live.inside.line; watch = c.live.inside.watch; seat = c.live.inside.seat; charter = record { rules = c.live.inside.routes.now; signer = c.live.inside.signer.now; tag = c.live.inside.tag }; reports = c.live.inside.reports } in
     let e = c.in-Full.ensures in
-    record { leads = held_live v c.args.live.now _ 3 _ c.live.view_is (held_from v (with_held v v.wire v.watch c.attach.new.seat c.attach.new.reports) _ 3 3 _ (goes_on v v.wire v.watch c.attach.new.seat c.attach.new.reports (moved_wire_same v.wire) refl e.moved) e.items (omega arith) c.decline.ensures.leads) }
+    record { leads = held_live v c.args.live.now _ 3 _ c.live.view_is (held_from v (with_held v v.wire v.watch c.attach.new.seat c.attach.new.reports) _ 3 3 _ (goes_on v v.wire v.watch c.attach.new.seat c.attach.new.reports (moved_wire_same v.wire) (watch_same v.watch) e.moved) e.items (omega arith) c.decline.ensures.leads) }
 
 pub returns-in-Busy : goal.returns-in-Busy
 returns-in-Busy g c =

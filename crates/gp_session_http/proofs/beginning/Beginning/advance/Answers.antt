@@ -19,10 +19,9 @@ returns-in-Waits g c =
         to = (
           begins_wait v s h m.new.self m.result m.ensures.uses m.ensures.row c.attach.new.seat c.attach.new.reports e.moved e.row e.items e.entries c.in-Waits.wait e.begins e.opens (e.holds h.is.holds) (e.attaches (specs_before h.rows.heard.turns) h.is.attaches) _ c.of-since.ensures,
           omega arith,
-          e.items,
+          (e.items, m.ensures.uses.moment ∙ ap Some (sym c.of-since.ensures)),
         );
       });
-      timed = m.ensures.uses.moment ∙ ap Some (sym c.of-since.ensures);
     }
 
 pub deny-requires : goal.deny-requires
@@ -43,7 +42,6 @@ returns-in-Full g c =
     let e = c.in-Full.ensures in
     record {
       leads = held_live v c.args.live.now _ 5 _ c.live.view_is (held_from v (with_held v v.wire m.new.self c.attach.new.seat c.attach.new.reports) _ 5 5 _ (begun_went v s h m.new.self m.result m.ensures.uses m.ensures.row c.attach.new.seat c.attach.new.reports e.moved e.row e.items) e.items (omega arith) c.deny.ensures.leads);
-      timed = c.deny.ensures.timed;
     }
 
 pub returns-in-Busy : goal.returns-in-Busy
@@ -53,7 +51,7 @@ returns-in-Busy g c =
     let h : BeginningTold v s = subst (λ (x : LiveView). BeginningTold x s) (sym c.live.view_is) c.requires.told in
     let m = c.moment-now in
     let e = c.in-Busy.ensures in
-    record { leads = held_live v c.args.live.now _ 5 _ c.live.view_is (begins_busy v s h m.new.self m.result m.ensures.uses m.ensures.row c.attach.new.seat c.attach.new.reports e.moved e.row e.items e.entries (e.holds h.is.holds) (e.attaches (specs_before h.rows.heard.turns) h.is.attaches) c.in-Busy.opening e.begins e.opens); timed = tt }
+    record { leads = held_live v c.args.live.now _ 5 _ c.live.view_is (begins_busy v s h m.new.self m.result m.ensures.uses m.ensures.row c.attach.new.seat c.attach.new.reports e.moved e.row e.items e.entries (e.holds h.is.holds) (e.attaches (specs_before h.rows.heard.turns) h.is.attaches) c.in-Busy.opening e.begins e.opens) }
 
 pub returns-in-Worn : goal.returns-in-Worn
 returns-in-Worn g c =
@@ -62,7 +60,7 @@ returns-in-Worn g c =
     let h : BeginningTold v s = subst (λ (x : LiveView). BeginningTold x s) (sym c.live.view_is) c.requires.told in
     let m = c.moment-now in
     let e = c.in-Worn.ensures in
-    record { leads = held_live v c.args.live.now _ 5 _ c.live.view_is (begins_worn v s h m.new.self m.result m.ensures.uses m.ensures.row c.attach.new.seat c.attach.new.reports e.moved e.row e.items e.entries (e.holds h.is.holds) (e.attaches (specs_before h.rows.heard.turns) h.is.attaches) e.opens c.end_with.result c.end_with.ensures); timed = tt }
+    record { leads = held_live v c.args.live.now _ 5 _ c.live.view_is (begins_worn v s h m.new.self m.result m.ensures.uses m.ensures.row c.attach.new.seat c.attach.new.reports e.moved e.row e.items e.entries (e.holds h.is.holds) (e.attaches (specs_before h.rows.heard.turns) h.is.attaches) e.opens c.end_with.result c.end_with.ensures) }
 
 pub returns-in-NoMemory : goal.returns-in-NoMemory
 returns-in-NoMemory g c =
@@ -71,4 +69,4 @@ returns-in-NoMemory g c =
     let h : BeginningTold v s = subst (λ (x : LiveView). BeginningTold x s) (sym c.live.view_is) c.requires.told in
     let m = c.moment-now in
     let e = c.in-NoMemory.ensures in
-    record { leads = held_live v c.args.live.now _ 5 _ c.live.view_is (begins_wants v s h m.new.self m.result m.ensures.uses m.ensures.row c.attach.new.seat c.attach.new.reports e.moved e.row e.items e.entries (e.holds h.is.holds) (e.attaches (specs_before h.rows.heard.turns) h.is.attaches) c.end_with-in-NoMemory.result c.end_with-in-NoMemory.ensures); timed = tt }
+    record { leads = held_live v c.args.live.now _ 5 _ c.live.view_is (begins_wants v s h m.new.self m.result m.ensures.uses m.ensures.row c.attach.new.seat c.attach.new.reports e.moved e.row e.items e.entries (e.holds h.is.holds) (e.attaches (specs_before h.rows.heard.turns) h.is.attaches) c.end_with-in-NoMemory.result c.end_with-in-NoMemory.ensures) }

@@ -6,7 +6,8 @@ use Rattle.gp_session_http.specs.Passing.{asked_of, passed_text}
 use Rattle.gp_session_http.specs.Views.{LiveView}
 use Rattle.gp_session_http.specs.Moves.{said}
 use Rattle.std.proofs.Common.{None}
-use Rattle.gp_session_http.proofs.Rows.{told_live, from_live, with_wire, with_line, moved_flush, moved_line, moved_again, told_flushed, says_flushed}
+use Rattle.gp_session.proofs.Moving.{says_flushed}
+use Rattle.gp_session_http.proofs.Rows.{told_live, from_live, with_wire, with_line, moved_flush, moved_line, moved_again, told_flushed}
 use Rattle.gp_session_http.proofs.Talking.{polled, flushed_on}
 use Rattle.gp_session_http.proofs.Sending.{steps_live, steps_from, passing_rows, passing_full, passing_gone}
 use Rattle.gp_session_http.proofs.passing.Passing.pass.Goals as goal

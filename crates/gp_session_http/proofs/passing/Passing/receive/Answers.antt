@@ -1,7 +1,8 @@
 use Rattle.std.proofs.Common.{◌∙◌, refl, ap, arith}
 use Rattle.gp_session_http.specs.declared.stage.Stage.TheVariants as stage
 use Rattle.gp_session_http.specs.Views.{LiveView}
-use Rattle.gp_session_http.proofs.Rows.{told_live, from_live, with_line, moved_line, leads_from, says_same}
+use Rattle.gp_session.proofs.Moving.{says_same}
+use Rattle.gp_session_http.proofs.Rows.{told_live, from_live, with_line, moved_line, leads_from}
 use Rattle.gp_session_http.proofs.Sending.{steps_live, steps_from, gave_part, gave_all, cut_short, goes_on, lost}
 use Rattle.gp_session_http.proofs.passing.Passing.receive.Goals as goal
 
@@ -55,7 +56,7 @@ returns-in-Fault g c =
     let e = c.in-Fault.ensures in
     record {
       steps = from_live v c.args.live.now _ 2 _ c.live.view_is
-          (cut_short v l s told y e.moved e.asked e.heads c.in-Fault.field-0 e.gives.0 (λ aims. e.row aims told.given) c.over-finishing.result c.over-finishing.ensures.passed c.over-finishing.ensures.exchange c.over-finishing.ensures.cause);
+          (cut_short v l s told y e.moved e.asked e.heads c.in-Fault.field-0 e.gives.0 e.gives.1 (λ aims. e.row aims told.given) c.over-finishing.result c.over-finishing.ensures.passed c.over-finishing.ensures.exchange c.over-finishing.ensures.cause);
     }
 
 pub returns-in-NotReady : goal.returns-in-NotReady

@@ -1,8 +1,9 @@
 use Rattle.std.proofs.Common.{◌≡◌, ◌∙◌, ap, sym, subst}
-use Rattle.gp_session_http.specs.Polls.{OpenView, PhaseTold}
-use Rattle.gp_session_http.specs.Views.{LiveView, Moved}
+use Rattle.std.specs.Prelude.{MatchResult}
+use Rattle.gp_session_http.specs.Polls.{Ends, OpenView, PhaseTold, Waits, at_poll, polled}
+use Rattle.gp_session_http.specs.Views.{LiveView}
 use Rattle.gp_session_http.proofs.Rows.{with_watch}
-use Rattle.gp_session_http.proofs.Turning.{phase_begun, moved_begun, polls_from}
+use Rattle.gp_session_http.proofs.Turning.{phase_begun, polls_begun}
 use Rattle.gp_session_http.proofs.session.Open.advance.Goals as goal
 
 pub advance-requires : goal.advance-requires
@@ -13,5 +14,6 @@ advance-requires g c =
 pub returns : goal.returns
 returns g c =
     let v : LiveView = record { wire = c.live.inside.wire; line = c.live.inside.line; watch = c.live.inside.watch; seat = c.live.inside.seat; charter = record { rules = c.live.inside.routes.now; signer = c.live.inside.signer.now; tag = c.live.inside.tag }; reports = c.live.inside.reports } in
-    let same : v ≡ c.args.self.live = c.live.view_is ∙ ap (λ (o : OpenView). o.live) c.self.view_is in
-    polls_from c.args.self.live (with_watch v c.begin.new.self) (subst (λ (x : LiveView). Moved x (with_watch v c.begin.new.self)) same (moved_begun v c.begin.new.self c.begin.ensures)) c.advance.result c.advance.ensures
+    let begun : with_watch v c.begin.new.self ≡ at_poll c.self.inside.live = sym (polls_begun v c.begin.new.self c.begin.ensures) ∙ ap at_poll c.live.view_is in
+    let same : record { live = with_watch v c.begin.new.self; phase = c.self.inside.phase } ≡ polled c.args.self = ap (λ (x : LiveView). record { live = x; phase = c.self.inside.phase }) begun ∙ ap polled c.self.view_is in
+    subst (λ (o : OpenView). MatchResult c.advance.result (Waits o) (λ left. Ends o.live left.0 left.1)) same c.advance.ensures

@@ -16,4 +16,5 @@ returns g c =
     record {
       leads = held_live v c.args.live.now _ 2 _ c.live.view_is (stops_by v c.report.new.reports s c.args.told c.args.«end» h (subst (λ (k : KeptView). (share : Share) → IsCounted k share → c.args.told ≡ share.told → c.report.new.reports.items ≡ v.reports.items ++ report k.number share ∷ []) c.into_hold.ensures c.report.ensures.reported)
           (subst (λ (k : KeptView). HoldsRow v.seat v.reports.items (over k c.args.told) → HoldsRow v.seat c.report.new.reports.items none) c.into_hold.ensures (c.report.ensures.row v.seat)) c.end_with.result c.end_with.ensures);
+      on = tt;
     }

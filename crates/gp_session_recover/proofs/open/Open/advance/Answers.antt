@@ -15,7 +15,7 @@ returns-in-Got g c =
 pub returns-in-Failed : goal.returns-in-Failed
 returns-in-Failed g c =
     let e = c.in-Failed.ensures in
-    failed_by c.args.self c.args.line.now c.seek.new.self e.moved c.seek.new.recovery.sought e.sought c.in-Failed.field-0 c.seek.new.recovery.stage e.row e.answers
+    failed_by c.args.self c.args.line.now c.seek.new.self e.moved c.seek.new.recovery.sought e.sought c.in-Failed.field-0 c.seek.new.recovery.stage e.row e.answers e.gives
 
 pub returns-in-NoMemory : goal.returns-in-NoMemory
 returns-in-NoMemory g c =

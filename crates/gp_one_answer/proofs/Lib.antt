@@ -1,0 +1,5 @@
+pub mod Heads
+pub mod Talks
+pub mod Instructions
+pub mod Reading
+pub mod Paging
